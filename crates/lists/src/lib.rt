@@ -1,0 +1,1 @@
+// Laws on lists that the other crates share. The crate is specs/ alone.
