@@ -6,7 +6,7 @@ use native.Mathlib.Nat.{suc-mul, zero-mul, add-comm, not-suc-le-zero, le-of-suc-
 use native.Mathlib.Numerals.{add-one}
 use native.Mathlib.Omega.{arith}
 use lib.ListN.{length, getD, take, drop, drop-of-length-le, length-drop}
-use lib.Seq.{drop-cons, drop-drop, take-append-le, drop-append-le}
+use lib.Seq.{drop-cons, drop-drop, take-add, take-append-le, drop-append-le}
 
 module _ {A : Type 0} where
   -- the first n pieces of w elements
@@ -53,3 +53,12 @@ module _ {A : Type 0} where
       let le : w ≤ length a = omega arith in
       rw (take-append-le w a b le, drop-append-le w a b le)
       (ap (λ (r : List (List A)). take w a ∷ r) (chunks-append w (drop w a) b n rest))
+
+  -- the pieces determine what they were cut from
+  pub chunks-determine : (w : ℕ) (s t : List A) (n : ℕ) → chunks w s n ≡ chunks w t n → take (n * w) s ≡ take (n * w) t
+  unfolding chunks
+  chunks-determine w s t zero e = rw (zero-mul w)
+  chunks-determine w s t (suc n) e =
+      let first : take w s ≡ take w t = cc in
+      let rest : chunks w (drop w s) n ≡ chunks w (drop w t) n = cc in
+      rw (suc-mul n w, add-comm (n * w) w, take-add w (n * w) s, take-add w (n * w) t, first, chunks-determine w (drop w s) (drop w t) n rest)

@@ -1,11 +1,12 @@
 -- Tests over a list: some member passes, all do, those that do; and membership of a byte string.
-use Prim.Native.Nat.{_+_}
+use Prim.Native.Nat.{ℕ, zero, suc, _+_, _<_}
+use native.Mathlib.Nat.{not-suc-le-zero, le-of-suc-le-suc}
 use native.Mathlib.Omega.{arith}
 use mathlib.Core.Path.{_≡_, refl, ap₂}
 use mathlib.Core.Logic.{⊎-elim}
 use mathlib.Core.Bool.{Bool, true, false, not, _&&_, _||_, cond}
 use mathlib.Core.List.{List, [], _∷_, List·Memᴰ, List·Memᴰ·head, List·Memᴰ·tail, List·Memᴰ·cases-cons, List·Memᴰ·not-nil, Memᴰ·cast}
-use lib.ListN.{length}
+use lib.ListN.{length, getD}
 use Rattle.lists.specs.Cases.{byBool, clash, and→, and←, or→, or←l, or←r}
 use Rattle.lists.specs.Bytes.{Bytes, sameBytes, same→, same-refl}
 
@@ -59,6 +60,11 @@ module _ {A : Type 0} where
   pub all← : (p : A → Bool) (l : List A) → ((y : A) → List·Memᴰ y l → p y ≡ true) → allOf p l ≡ true
   all← p [] h = refl
   all← p (x ∷ xs) h = and← (p x) (allOf p xs) (h x (List·Memᴰ·head refl)) (all← p xs (λ y m. h y (List·Memᴰ·tail m)))
+
+  pub all-at : (p : A → Bool) (l : List A) (d : A) → allOf p l ≡ true → (i : ℕ) → i < length l → p (getD l i d) ≡ true
+  all-at p [] d e i h = absurd (not-suc-le-zero h)
+  all-at p (x ∷ xs) d e zero h = and→ (p x) (allOf p xs) e .0
+  all-at p (x ∷ xs) d e (suc i) h = all-at p xs d (and→ (p x) (allOf p xs) e .1) i (le-of-suc-le-suc h)
 
   pub any-cong : (p q : A → Bool) (l : List A) → ((y : A) → List·Memᴰ y l → p y ≡ q y) → anyOf p l ≡ anyOf q l
   any-cong p q [] h = refl
