@@ -1,0 +1,27 @@
+-- `sha256::round_and_word` meets its contract.
+-- Assumes nothing.
+use borrow.Author.Needs.{needs}
+use Rattle.sha256.proofs.round_and_word.Statement.{statement}
+use Rattle.sha256.proofs.round_and_word.Tie as tie
+
+round-at-requires : tie.Need-round-at-requires
+round-at-requires c κs = search needs
+
+next-word-requires : tie.Need-next-word-requires
+next-word-requires c κs = search needs
+
+add-w : tie.Need-add-w
+add-w c = search needs
+
+mul-w : tie.Need-mul-w
+mul-w c = search needs
+
+element-write-w : tie.Need-element-write-w
+element-write-w c = search needs
+
+returns : tie.Need-returns
+returns c = (cc, cc)
+
+pub round-and-word-spec : {M : Type 1} → statement M
+round-and-word-spec =
+    tie.close (tie.spec round-at-requires next-word-requires add-w mul-w element-write-w returns)
