@@ -1,5 +1,7 @@
-// FIPS 180-4, 4.2.2: the constants of the rounds.
-pub const KEYS: [u32; 64] = [
+// The tables of SHA-256.
+
+// 4.2.2: the constants of the rounds, K of specs/Constants.antt.
+pub const ROUND_CONSTANTS: [u32; 64] = [
     0x428a_2f98,
     0x7137_4491,
     0xb5c0_fbcf,

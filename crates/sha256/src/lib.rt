@@ -13,7 +13,7 @@ ghost use Rattle.sha256.specs.Constants.{K};
 ghost use Rattle.sha256.specs.Sha256.{be32, padded, wordAt, words, H0, nextWord, extended, oneRound, rounds};
 ghost use Rattle.sha256.specs.Sha256.{addStates, compress, hashBlocks, hashAll, digestBytes, sha256};
 use constants::EVENT_PADDING;
-use constants::KEYS;
+use constants::ROUND_CONSTANTS;
 use std::num::wrapping_add_u32;
 
 // A hash value, or the working variables of a round.
@@ -67,7 +67,8 @@ fn hash_blocks(message: &[u8]) -> State
     s
 }
 
-// The last one or two blocks: what is left of a message, less than a block, and its padding.
+// The last one or two blocks: what is left of a message, less than a block, and its padding. The byte 0x80 and the eight
+// bytes of the length fit into the same block where n < 56.
 fn hash_rest(s: State, rest: &[u8], bits: u64) -> State
     requires { ⌜ length (now rest) < 64 ⌝ }
     ensures { λ r. ⌜ r ≡ hashAll s (padded (now (rest .entry)) bits) ⌝ }
@@ -87,7 +88,7 @@ fn hash_rest(s: State, rest: &[u8], bits: u64) -> State
     }
 }
 
-// 5.3.3
+// 5.3.3: the initial hash value.
 fn initial() -> State
     ensures { λ r. ⌜ r ≡ H0 ⌝ }
 {
@@ -103,83 +104,83 @@ fn initial() -> State
     }
 }
 
-// 6.2.2, for one block. The constants are lent: a constant indexed in a loop would be copied at each round.
+// 6.2.2, for one block. The round constants are lent, since a constant that a loop indexes is copied at each round.
 fn compress(s: State, block: &[u8]) -> State
     requires { ⌜ length (now block) ≡ 64 ⌝ }
     ensures { λ r. ⌜ r ≡ compress s (now (block .entry)) ⌝ }
 {
     let mut w = [0u32; 64];
     load_words(block, &mut w);
-    add_states(s, all_rounds(s, &mut w, &KEYS))
+    add_states(s, all_rounds(s, &mut w, &ROUND_CONSTANTS))
 }
 
 // All rounds, with the block's 16 words at the front of w.
-fn all_rounds(s: State, w: &mut [u32; 64], keys: &[u32; 64]) -> State
-    requires { ⌜ (length (now w) ≡ 64) × (now keys ≡ K) ⌝ }
+fn all_rounds(s: State, w: &mut [u32; 64], k: &[u32; 64]) -> State
+    requires { ⌜ (length (now w) ≡ 64) × (now k ≡ K) ⌝ }
     ensures { λ r. ⌜ r ≡ rounds 64 (extended 48 (take 16 (now (w .entry)))) s ⌝ }
 {
-    let s1 = first_rounds(s, w, keys);
-    let s2 = eight_rounds(s1, w, keys, 48);
-    eight_rounds(s2, w, keys, 56)
+    let s1 = first_rounds(s, w, k);
+    let s2 = eight_rounds(s1, w, k, 48);
+    eight_rounds(s2, w, k, 56)
 }
 
 // The first 48 rounds, which leave the whole schedule in w. To make it beside the rounds is faster than before them.
-fn first_rounds(s0: State, w: &mut [u32; 64], keys: &[u32; 64]) -> State
-    requires { ⌜ (length (now w) ≡ 64) × (now keys ≡ K) ⌝ }
+fn first_rounds(s0: State, w: &mut [u32; 64], k: &[u32; 64]) -> State
+    requires { ⌜ (length (now w) ≡ 64) × (now k ≡ K) ⌝ }
     ensures { λ _. ⌜ now (w .exit) ≡ extended 48 (take 16 (now (w .entry))) ⌝ }
     ensures { λ r. ⌜ r ≡ rounds 48 (now (w .exit)) s0 ⌝ }
 {
     let mut s = s0;
     let mut t = 0;
     while t < 48 {
-        s = round_and_word(s, w, keys, t);
-        s = round_and_word(s, w, keys, t + 1);
-        s = round_and_word(s, w, keys, t + 2);
-        s = round_and_word(s, w, keys, t + 3);
-        s = round_and_word(s, w, keys, t + 4);
-        s = round_and_word(s, w, keys, t + 5);
-        s = round_and_word(s, w, keys, t + 6);
-        s = round_and_word(s, w, keys, t + 7);
+        s = round_and_word(s, w, k, t);
+        s = round_and_word(s, w, k, t + 1);
+        s = round_and_word(s, w, k, t + 2);
+        s = round_and_word(s, w, k, t + 3);
+        s = round_and_word(s, w, k, t + 4);
+        s = round_and_word(s, w, k, t + 5);
+        s = round_and_word(s, w, k, t + 6);
+        s = round_and_word(s, w, k, t + 7);
         t += 8;
     }
     s
 }
 
-// The round t, and the word t + 16 of the schedule.
-fn round_and_word(s: State, w: &mut [u32; 64], keys: &[u32; 64], t: usize) -> State
-    requires { ⌜ (t < 48) × (now keys ≡ K) ⌝ }
+// The word t + 16 of the schedule, and the round t.
+fn round_and_word(s: State, w: &mut [u32; 64], k: &[u32; 64], t: usize) -> State
+    requires { ⌜ (t < 48) × (now k ≡ K) ⌝ }
     ensures { λ _. ⌜ now (w .exit) ≡ set (now (w .entry)) (t + 16) (nextWord (now (w .entry)) t) ⌝ }
     ensures { λ r. ⌜ r ≡ oneRound (getD K t 0) (getD (now (w .entry)) t 0) s ⌝ }
 {
-    let r = round_at(s, w, keys, t);
+    let x = w[t];
     w[t + 16] = next_word(w, t);
-    r
+    round(s, k[t], x)
 }
 
 // The eight rounds from t: where s is what t rounds make of z, the result is what t + 8 rounds make of it.
-fn eight_rounds(s: State, w: &[u32; 64], keys: &[u32; 64], t: usize) -> State
-    requires { ⌜ (t + 8 ≤ 64) × (now keys ≡ K) ⌝ }
+fn eight_rounds(s: State, w: &[u32; 64], k: &[u32; 64], t: usize) -> State
+    requires { ⌜ (t + 8 ≤ 64) × (now k ≡ K) ⌝ }
     ensures { λ r. ⌜ ((z : State) → s ≡ rounds t (now (w .entry)) z → r ≡ rounds (t + 8) (now (w .entry)) z) ⌝ }
 {
-    let s1 = round_at(s, w, keys, t);
-    let s2 = round_at(s1, w, keys, t + 1);
-    let s3 = round_at(s2, w, keys, t + 2);
-    let s4 = round_at(s3, w, keys, t + 3);
-    let s5 = round_at(s4, w, keys, t + 4);
-    let s6 = round_at(s5, w, keys, t + 5);
-    let s7 = round_at(s6, w, keys, t + 6);
-    round_at(s7, w, keys, t + 7)
+    let s1 = round_at(s, w, k, t);
+    let s2 = round_at(s1, w, k, t + 1);
+    let s3 = round_at(s2, w, k, t + 2);
+    let s4 = round_at(s3, w, k, t + 3);
+    let s5 = round_at(s4, w, k, t + 4);
+    let s6 = round_at(s5, w, k, t + 5);
+    let s7 = round_at(s6, w, k, t + 6);
+    round_at(s7, w, k, t + 7)
 }
 
 // The round t.
-fn round_at(s: State, w: &[u32; 64], keys: &[u32; 64], t: usize) -> State
-    requires { ⌜ (t < 64) × (now keys ≡ K) ⌝ }
+fn round_at(s: State, w: &[u32; 64], k: &[u32; 64], t: usize) -> State
+    requires { ⌜ (t < 64) × (now k ≡ K) ⌝ }
     ensures { λ r. ⌜ r ≡ oneRound (getD K t 0) (getD (now (w .entry)) t 0) s ⌝ }
 {
-    round(s, keys[t], w[t])
+    round(s, k[t], w[t])
 }
 
-// 6.2.2, step 3
+// 6.2.2, step 3: one round, with its constant and its word.
 fn round(s: State, k: u32, w: u32) -> State
     ensures { λ r. ⌜ r ≡ oneRound k w s ⌝ }
 {
@@ -198,7 +199,7 @@ fn round(s: State, k: u32, w: u32) -> State
     }
 }
 
-// 6.2.2, step 4
+// 6.2.2, step 4: the next hash value, from the one before and the working variables.
 fn add_states(s: State, t: State) -> State
     ensures { λ r. ⌜ r ≡ addStates s t ⌝ }
 {
@@ -251,7 +252,7 @@ fn word(a: u8, b: u8, c: u8, d: u8) -> u32
     (a as u32) * 0x100_0000 + (b as u32) * 0x1_0000 + (c as u32) * 0x100 + (d as u32)
 }
 
-// The digest that a hash value is.
+// The digest that a hash value gives.
 fn to_bytes(s: State) -> [u8; 32]
     ensures { λ r. ⌜ r ≡ digestBytes s ⌝ }
 {
@@ -260,7 +261,7 @@ fn to_bytes(s: State) -> [u8; 32]
     out
 }
 
-// The eight words of s, one after another.
+// 6.2.2: the eight words of s, one after another.
 fn store_state(s: State, out: &mut [u8])
     requires { ⌜ length (now out) ≡ 32 ⌝ }
     ensures { λ _. ⌜ now (out .exit) ≡ digestBytes s ⌝ }
@@ -286,7 +287,7 @@ fn store_word(out: &mut [u8], at: usize, x: u32)
     out[at + 3] = (x % 256) as u8;
 }
 
-// 4.1.2, (4.2) to (4.7)
+// 4.1.2, (4.2) to (4.7): the functions on words.
 fn ch(x: u32, y: u32, z: u32) -> u32
     ensures { λ r. ⌜ r ≡ Ch x y z ⌝ }
 {

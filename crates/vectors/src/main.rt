@@ -27,7 +27,7 @@ fn standard_examples() {
     );
 }
 
-// 258 bytes.
+// The message of which `lengths` takes the first n bytes.
 fn text() -> [u8; 258] {
     let mut bytes = [0u8; 258];
     let mut i = 0;
@@ -38,7 +38,7 @@ fn text() -> [u8; 258] {
     bytes
 }
 
-// The first n bytes of text, for each n from first to last: lengths around the ends of blocks and of padding.
+// The digest of the first n bytes of text, for each n from first to last.
 fn lengths(text: &[u8], first: usize, last: usize)
     requires { ⌜ last ≤ length (now text) ⌝ }
 {

@@ -11,10 +11,10 @@ use Rattle.sha256.proofs.first_rounds.Statement.{statement}
 use Rattle.sha256.proofs.first_rounds.Tie as tie
 
 abbrev Inv-loop : tie.InvT-loop
-Inv-loop w₀ keys s₀ t₀ w s t = (t ≤ 48) × (t % 8 ≡ 0) × Midway (take 16 w₀) s₀ t w s
+Inv-loop w₀ k s₀ t₀ w s t = (t ≤ 48) × (t % 8 ≡ 0) × Midway (take 16 w₀) s₀ t w s
 
 abbrev μ-loop : tie.MeasureT-loop
-μ-loop w₀ keys s₀ t₀ w s t = 48 - t
+μ-loop w₀ k s₀ t₀ w s t = 48 - t
 
 loop-holds : tie.Need-loop-holds Inv-loop μ-loop
 unfolding extended rounds
