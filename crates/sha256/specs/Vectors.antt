@@ -6,13 +6,13 @@ use Rattle.sha256.specs.Constants.{K}
 use Rattle.sha256.specs.Sha256.{be32, be64, padded, words, nextWord, extended, oneRound, rounds, addStates}
 use Rattle.sha256.specs.Sha256.{compress, hashBlocks, hashAll, digestBytes, sha256}
 
--- the empty message
-empty : sha256 []
+-- ""
+empty-message : sha256 []
     ≡ be32 0xe3b0_c442 ++ be32 0x98fc_1c14 ++ be32 0x9afb_f4c8 ++ be32 0x996f_b924
     ++ be32 0x27ae_41e4 ++ be32 0x649b_934c ++ be32 0xa495_991b ++ be32 0x7852_b855
 unfolding be32 be64 padded words nextWord extended K oneRound rounds addStates
     compress hashBlocks hashAll digestBytes sha256
-empty = refl
+empty-message = refl
 
 -- "abc"
 abc : sha256 (0x61 ∷ 0x62 ∷ 0x63 ∷ [])

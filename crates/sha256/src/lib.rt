@@ -67,8 +67,8 @@ fn hash_blocks(message: &[u8]) -> State
     s
 }
 
-// The last one or two blocks: what is left of a message, less than a block, and its padding. The byte 0x80 and the eight
-// bytes of the length fit into the same block where n < 56.
+// The last one or two blocks: what is left of a message, less than a block, and its padding. Where n < 56 the byte 0x80
+// and the eight bytes of the length fit into the same block.
 fn hash_rest(s: State, rest: &[u8], bits: u64) -> State
     requires { ⌜ length (now rest) < 64 ⌝ }
     ensures { λ r. ⌜ r ≡ hashAll s (padded (now (rest .entry)) bits) ⌝ }
