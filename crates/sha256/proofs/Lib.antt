@@ -1,0 +1,6 @@
+-- What several proofs cite.
+pub mod Rounds
+pub mod Stores
+pub mod Blocks
+pub mod Padding
+pub mod Event

@@ -1,0 +1,325 @@
+// SHA-256 of byte strings, as FIPS 180-4 defines it.
+//
+// It rests on std's wrapping sums and on bytes::copy. Both public functions promise, for every slice, the 32 bytes that
+// `sha256` of specs/Sha256.antt gives: FIPS 180-4's own digest for each message of fewer than 2^64 bits.
+mod constants;
+
+ghost use mathlib.Core.Path.{_≡_};
+ghost use mathlib.Core.List.{_++_};
+ghost use Prim.Native.Nat.{_+_, _*_, _/_, _^_, _<_, _≤_};
+ghost use lib.ListN.{length, getD, take, set};
+ghost use Rattle.sha256.specs.Words.{Ch, Maj, Σ0, Σ1, σ0, σ1};
+ghost use Rattle.sha256.specs.Constants.{K};
+ghost use Rattle.sha256.specs.Sha256.{be32, padded, wordAt, words, H0, nextWord, extended, oneRound, rounds};
+ghost use Rattle.sha256.specs.Sha256.{addStates, compress, hashBlocks, hashAll, digestBytes, sha256};
+use constants::EVENT_PADDING;
+use constants::ROUND_CONSTANTS;
+use std::num::wrapping_add_u32;
+
+// A hash value, or the working variables of a round.
+struct State {
+    a: u32,
+    b: u32,
+    c: u32,
+    d: u32,
+    e: u32,
+    f: u32,
+    g: u32,
+    h: u32,
+}
+
+// SHA-256 of a message of any length.
+pub fn digest(message: &[u8]) -> [u8; 32]
+    ensures { λ r. ⌜ r ≡ sha256 (now (message .entry)) ⌝ }
+{
+    let n = message.len();
+    let at = n / 64 * 64;
+    let s = hash_blocks(message);
+    // The shift drops the bits above 2^64, as the definition does.
+    to_bytes(hash_rest(s, &message[at..], (n as u64) << 3))
+}
+
+// SHA-256 too, of an event. For its 192 bytes the padding is one constant block: four compressions, and no copy.
+pub fn event_id(event: &[u8]) -> [u8; 32]
+    ensures { λ r. ⌜ r ≡ sha256 (now (event .entry)) ⌝ }
+{
+    if event.len() != 192 {
+        return digest(event);
+    }
+    let s1 = compress(initial(), &event[0..64]);
+    let s2 = compress(s1, &event[64..128]);
+    let s3 = compress(s2, &event[128..192]);
+    to_bytes(compress(s3, &EVENT_PADDING))
+}
+
+// The hash value of the message's whole blocks.
+fn hash_blocks(message: &[u8]) -> State
+    ensures { λ r. ⌜ r ≡ hashBlocks H0 (length (now (message .entry)) / 64) (now (message .entry)) ⌝ }
+{
+    let n = message.len() / 64;
+    let mut s = initial();
+    let mut i = 0;
+    while i < n {
+        let at = i * 64;
+        s = compress(s, &message[at..at + 64]);
+        i += 1;
+    }
+    s
+}
+
+// The last one or two blocks: what is left of a message, less than a block, and its padding. Where n < 56 the byte 0x80
+// and the eight bytes of the length fit into the same block.
+fn hash_rest(s: State, rest: &[u8], bits: u64) -> State
+    requires { ⌜ length (now rest) < 64 ⌝ }
+    ensures { λ r. ⌜ r ≡ hashAll s (padded (now (rest .entry)) bits) ⌝ }
+{
+    let mut tail = [0u8; 128];
+    let n = bytes::copy(rest, &mut tail);
+    tail[n] = 0x80;
+    if n < 56 {
+        store_word(&mut tail, 56, (bits >> 32) as u32);
+        store_word(&mut tail, 60, (bits % 0x1_0000_0000) as u32);
+        compress(s, &tail[0..64])
+    } else {
+        store_word(&mut tail, 120, (bits >> 32) as u32);
+        store_word(&mut tail, 124, (bits % 0x1_0000_0000) as u32);
+        let t = compress(s, &tail[0..64]);
+        compress(t, &tail[64..128])
+    }
+}
+
+// 5.3.3: the initial hash value.
+fn initial() -> State
+    ensures { λ r. ⌜ r ≡ H0 ⌝ }
+{
+    State {
+        a: 0x6a09_e667,
+        b: 0xbb67_ae85,
+        c: 0x3c6e_f372,
+        d: 0xa54f_f53a,
+        e: 0x510e_527f,
+        f: 0x9b05_688c,
+        g: 0x1f83_d9ab,
+        h: 0x5be0_cd19,
+    }
+}
+
+// 6.2.2, for one block. The round constants are lent, since a constant that a loop indexes is copied at each round.
+fn compress(s: State, block: &[u8]) -> State
+    requires { ⌜ length (now block) ≡ 64 ⌝ }
+    ensures { λ r. ⌜ r ≡ compress s (now (block .entry)) ⌝ }
+{
+    let mut w = [0u32; 64];
+    load_words(block, &mut w);
+    add_states(s, all_rounds(s, &mut w, &ROUND_CONSTANTS))
+}
+
+// All rounds, with the block's 16 words at the front of w.
+fn all_rounds(s: State, w: &mut [u32; 64], k: &[u32; 64]) -> State
+    requires { ⌜ (length (now w) ≡ 64) × (now k ≡ K) ⌝ }
+    ensures { λ r. ⌜ r ≡ rounds 64 (extended 48 (take 16 (now (w .entry)))) s ⌝ }
+{
+    let s1 = first_rounds(s, w, k);
+    let s2 = eight_rounds(s1, w, k, 48);
+    eight_rounds(s2, w, k, 56)
+}
+
+// The first 48 rounds, which leave the whole schedule in w. To make it beside the rounds is faster than before them.
+fn first_rounds(s0: State, w: &mut [u32; 64], k: &[u32; 64]) -> State
+    requires { ⌜ (length (now w) ≡ 64) × (now k ≡ K) ⌝ }
+    ensures { λ _. ⌜ now (w .exit) ≡ extended 48 (take 16 (now (w .entry))) ⌝ }
+    ensures { λ r. ⌜ r ≡ rounds 48 (now (w .exit)) s0 ⌝ }
+{
+    let mut s = s0;
+    let mut t = 0;
+    while t < 48 {
+        s = round_and_word(s, w, k, t);
+        s = round_and_word(s, w, k, t + 1);
+        s = round_and_word(s, w, k, t + 2);
+        s = round_and_word(s, w, k, t + 3);
+        s = round_and_word(s, w, k, t + 4);
+        s = round_and_word(s, w, k, t + 5);
+        s = round_and_word(s, w, k, t + 6);
+        s = round_and_word(s, w, k, t + 7);
+        t += 8;
+    }
+    s
+}
+
+// The word t + 16 of the schedule, and the round t.
+fn round_and_word(s: State, w: &mut [u32; 64], k: &[u32; 64], t: usize) -> State
+    requires { ⌜ (t < 48) × (now k ≡ K) ⌝ }
+    ensures { λ _. ⌜ now (w .exit) ≡ set (now (w .entry)) (t + 16) (nextWord (now (w .entry)) t) ⌝ }
+    ensures { λ r. ⌜ r ≡ oneRound (getD K t 0) (getD (now (w .entry)) t 0) s ⌝ }
+{
+    let x = w[t];
+    w[t + 16] = next_word(w, t);
+    round(s, k[t], x)
+}
+
+// The eight rounds from t: where s is what t rounds make of z, the result is what t + 8 rounds make of it.
+fn eight_rounds(s: State, w: &[u32; 64], k: &[u32; 64], t: usize) -> State
+    requires { ⌜ (t + 8 ≤ 64) × (now k ≡ K) ⌝ }
+    ensures { λ r. ⌜ ((z : State) → s ≡ rounds t (now (w .entry)) z → r ≡ rounds (t + 8) (now (w .entry)) z) ⌝ }
+{
+    let s1 = round_at(s, w, k, t);
+    let s2 = round_at(s1, w, k, t + 1);
+    let s3 = round_at(s2, w, k, t + 2);
+    let s4 = round_at(s3, w, k, t + 3);
+    let s5 = round_at(s4, w, k, t + 4);
+    let s6 = round_at(s5, w, k, t + 5);
+    let s7 = round_at(s6, w, k, t + 6);
+    round_at(s7, w, k, t + 7)
+}
+
+// The round t.
+fn round_at(s: State, w: &[u32; 64], k: &[u32; 64], t: usize) -> State
+    requires { ⌜ (t < 64) × (now k ≡ K) ⌝ }
+    ensures { λ r. ⌜ r ≡ oneRound (getD K t 0) (getD (now (w .entry)) t 0) s ⌝ }
+{
+    round(s, k[t], w[t])
+}
+
+// 6.2.2, step 3: one round, with its constant and its word.
+fn round(s: State, k: u32, w: u32) -> State
+    ensures { λ r. ⌜ r ≡ oneRound k w s ⌝ }
+{
+    let x = wrapping_add_u32(wrapping_add_u32(s.h, big_sigma1(s.e)), ch(s.e, s.f, s.g));
+    let t1 = wrapping_add_u32(wrapping_add_u32(x, k), w);
+    let t2 = wrapping_add_u32(big_sigma0(s.a), maj(s.a, s.b, s.c));
+    State {
+        a: wrapping_add_u32(t1, t2),
+        b: s.a,
+        c: s.b,
+        d: s.c,
+        e: wrapping_add_u32(s.d, t1),
+        f: s.e,
+        g: s.f,
+        h: s.g,
+    }
+}
+
+// 6.2.2, step 4: the next hash value, from the one before and the working variables.
+fn add_states(s: State, t: State) -> State
+    ensures { λ r. ⌜ r ≡ addStates s t ⌝ }
+{
+    State {
+        a: wrapping_add_u32(s.a, t.a),
+        b: wrapping_add_u32(s.b, t.b),
+        c: wrapping_add_u32(s.c, t.c),
+        d: wrapping_add_u32(s.d, t.d),
+        e: wrapping_add_u32(s.e, t.e),
+        f: wrapping_add_u32(s.f, t.f),
+        g: wrapping_add_u32(s.g, t.g),
+        h: wrapping_add_u32(s.h, t.h),
+    }
+}
+
+// 6.2.2, step 1: the word t + 16 of the schedule.
+fn next_word(w: &[u32; 64], t: usize) -> u32
+    requires { ⌜ t < 48 ⌝ }
+    ensures { λ r. ⌜ r ≡ nextWord (now (w .entry)) t ⌝ }
+{
+    let x = wrapping_add_u32(small_sigma1(w[t + 14]), w[t + 9]);
+    wrapping_add_u32(wrapping_add_u32(x, small_sigma0(w[t + 1])), w[t])
+}
+
+// 5.2.1: the block's 16 words, at the front of w.
+fn load_words(block: &[u8], w: &mut [u32; 64])
+    requires { ⌜ (length (now block) ≡ 64) × (length (now w) ≡ 64) ⌝ }
+    ensures { λ _. ⌜ (length (now (w .exit)) ≡ 64) × (take 16 (now (w .exit)) ≡ words 16 (now (block .entry))) ⌝ }
+{
+    let mut i = 0;
+    while i < 16 {
+        w[i] = load_word(block, i);
+        i += 1;
+    }
+}
+
+// The word j of a block.
+fn load_word(block: &[u8], j: usize) -> u32
+    requires { ⌜ (j < 16) × (length (now block) ≡ 64) ⌝ }
+    ensures { λ r. ⌜ r ≡ wordAt (now (block .entry)) j ⌝ }
+{
+    let at = j * 4;
+    word(block[at], block[at + 1], block[at + 2], block[at + 3])
+}
+
+// Four bytes as a word, the most significant first.
+fn word(a: u8, b: u8, c: u8, d: u8) -> u32
+    ensures { λ r. ⌜ r ≡ a * 2 ^ 24 + b * 2 ^ 16 + c * 2 ^ 8 + d ⌝ }
+{
+    (a as u32) * 0x100_0000 + (b as u32) * 0x1_0000 + (c as u32) * 0x100 + (d as u32)
+}
+
+// The digest that a hash value gives.
+fn to_bytes(s: State) -> [u8; 32]
+    ensures { λ r. ⌜ r ≡ digestBytes s ⌝ }
+{
+    let mut out = [0u8; 32];
+    store_state(s, &mut out);
+    out
+}
+
+// 6.2.2: the eight words of s, one after another.
+fn store_state(s: State, out: &mut [u8])
+    requires { ⌜ length (now out) ≡ 32 ⌝ }
+    ensures { λ _. ⌜ now (out .exit) ≡ digestBytes s ⌝ }
+{
+    store_word(out, 0, s.a);
+    store_word(out, 4, s.b);
+    store_word(out, 8, s.c);
+    store_word(out, 12, s.d);
+    store_word(out, 16, s.e);
+    store_word(out, 20, s.f);
+    store_word(out, 24, s.g);
+    store_word(out, 28, s.h);
+}
+
+// The four bytes of x, the most significant first, from index at.
+fn store_word(out: &mut [u8], at: usize, x: u32)
+    requires { ⌜ at + 4 ≤ length (now out) ⌝ }
+    ensures { λ _. ⌜ take (at + 4) (now (out .exit)) ≡ take at (now (out .entry)) ++ be32 x ⌝ }
+{
+    out[at] = (x >> 24) as u8;
+    out[at + 1] = ((x >> 16) % 256) as u8;
+    out[at + 2] = ((x >> 8) % 256) as u8;
+    out[at + 3] = (x % 256) as u8;
+}
+
+// 4.1.2, (4.2) to (4.7): the functions on words.
+fn ch(x: u32, y: u32, z: u32) -> u32
+    ensures { λ r. ⌜ r ≡ Ch x y z ⌝ }
+{
+    (x & y) ^ (!x & z)
+}
+
+fn maj(x: u32, y: u32, z: u32) -> u32
+    ensures { λ r. ⌜ r ≡ Maj x y z ⌝ }
+{
+    (x & y) ^ (x & z) ^ (y & z)
+}
+
+fn big_sigma0(x: u32) -> u32
+    ensures { λ r. ⌜ r ≡ Σ0 x ⌝ }
+{
+    (x >> 2 | x << 30) ^ (x >> 13 | x << 19) ^ (x >> 22 | x << 10)
+}
+
+fn big_sigma1(x: u32) -> u32
+    ensures { λ r. ⌜ r ≡ Σ1 x ⌝ }
+{
+    (x >> 6 | x << 26) ^ (x >> 11 | x << 21) ^ (x >> 25 | x << 7)
+}
+
+fn small_sigma0(x: u32) -> u32
+    ensures { λ r. ⌜ r ≡ σ0 x ⌝ }
+{
+    (x >> 7 | x << 25) ^ (x >> 18 | x << 14) ^ (x >> 3)
+}
+
+fn small_sigma1(x: u32) -> u32
+    ensures { λ r. ⌜ r ≡ σ1 x ⌝ }
+{
+    (x >> 17 | x << 15) ^ (x >> 19 | x << 13) ^ (x >> 10)
+}
