@@ -21,7 +21,9 @@ module _ (s t : List Event) (d : DistinctIds s) (c : DistinctIds t) (h : SameMem
       missing : findIn s i ≡ none → findIn s i ≡ findIn t i
       missing n =
           byOption (findIn t i) (λ m. n ∙ sym m)
-          (λ e m. let g = find→ t i e m in clashOption (findIn s i) e n (ap (findIn s) (sym (g .1)) ∙ find← s d e (h .1 e (g .0))))
+          (λ e m.
+          let g = find→ t i e m in
+          clashOption (findIn s i) e n (ap (findIn s) (sym (g .1)) ∙ find← s d e (h .1 e (g .0))))
 
       found : (e : Event) → findIn s i ≡ some e → findIn s i ≡ findIn t i
       found e m = let g = find→ s i e m in m ∙ sym (ap (findIn t) (sym (g .1)) ∙ find← t c e (h .0 e (g .0)))

@@ -23,9 +23,10 @@ use Rattle.model.specs.HeightLaws.{
   height-found,
   settled→,
   settled←,
+  OfParents,
   settled-ind,
 }
-use Rattle.model.specs.AncestryLaws.{ancestor-creator, ancestor-law, ancestor-settled, ancestor-trans, past-ind}
+use Rattle.model.specs.AncestryLaws.{ancestor-creator, ancestor-law, ancestor-settled, ancestor-trans, OfAncestors, past-ind}
 use Rattle.model.specs.LineLaws.{line-presents, line-ends, OnLine, on-line}
 use Rattle.model.specs.SoundLaws.{sound-law, sound-settled, sound-ancestor, from-cong}
 use Rattle.model.specs.VoidLaws.{Struck, effective-sound, effective-holds}
@@ -41,8 +42,7 @@ module _ (s t : List Event) (c : DistinctIds t) (h : Within s t) where
       Kept : Id → Type 0
       Kept j = (b : ℕ) → height (view s) j ≡ some b → height (view t) j ≡ some b
 
-      step : (j : Id) (e : Event) → findIn s j ≡ some e → settled (view s) j ≡ true
-          → (isCreate e ≡ false → (p : Id) → List·Memᴰ p (e .parents) → (settled (view s) p ≡ true) × Kept p) → Kept j
+      step : (j : Id) (e : Event) → findIn s j ≡ some e → settled (view s) j ≡ true → OfParents Kept e → Kept j
       step j e m st up b r = byBool (isCreate e) creator other
         where
           creator : isCreate e ≡ true → height (view t) j ≡ some b
@@ -53,32 +53,35 @@ module _ (s t : List Event) (c : DistinctIds t) (h : Within s t) where
               let o = height→ s j e b m f r in
               let w = o .attained in
               height← t j e b (found-kept j e m) f (record {
-                each = λ p n. let u = o .each p n in (u .0, up f p n .1 (u .0) (u .1), u .2);
-                attained = (w .0, w .1, w .2, up f (w .0) (w .1) .1 (w .2) (w .3), w .4);
+                each = λ p n. let u = o .each p n in (u .0, up f p n (u .0) (u .1), u .2);
+                attained = (w .0, w .1, w .2, up f (w .0) (w .1) (w .2) (w .3), w .4);
               })
 
   pub settled-kept : (i : Id) → settled (view s) i ≡ true → settled (view t) i ≡ true
   settled-kept i y = let w = settled→ (view s) i y in settled← (view t) i (w .0) (height-kept i (w .0) (w .1))
 
   pub ancestor-kept : (i a : Id) → settled (view s) i ≡ true → ancestor (view t) i a ≡ ancestor (view s) i a
-  ancestor-kept i a = settled-ind s (λ j. ancestor (view t) j a ≡ ancestor (view s) j a) step i
+  ancestor-kept i a = settled-ind s Kept step i
     where
-      Parents : Event → Type 0
-      Parents e = isCreate e ≡ false → (p : Id) → List·Memᴰ p (e .parents) → (settled (view s) p ≡ true) × (ancestor (view t) p a ≡ ancestor (view s) p a)
+      Kept : Id → Type 0
+      Kept j = ancestor (view t) j a ≡ ancestor (view s) j a
 
-      step : (j : Id) (e : Event) → findIn s j ≡ some e → settled (view s) j ≡ true → Parents e → ancestor (view t) j a ≡ ancestor (view s) j a
+      step : (j : Id) (e : Event) → findIn s j ≡ some e → settled (view s) j ≡ true → OfParents Kept e → Kept j
       step j e m st up =
           byBool (isCreate e)
           (λ y. ancestor-creator t j a e (found-kept j e m) y ∙ sym (ancestor-creator s j a e m y))
           (λ f.
           ancestor-law t j a e (found-kept j e m) (settled-kept j st) f
-          ∙ any-cong _ _ (e .parents) (λ p n. ap (λ (x : Bool). sameBytes p a || x) (up f p n .1))
+          ∙ any-cong _ _ (e .parents) (λ p n. ap (λ (x : Bool). sameBytes p a || x) (up f p n))
           ∙ sym (ancestor-law s j a e m st f))
 
   pub line-kept : (i : Id) → settled (view s) i ≡ true → line (view t) i ≡ line (view s) i
-  line-kept = past-ind s (λ j. line (view t) j ≡ line (view s) j) step
+  line-kept = past-ind s Kept step
     where
-      step : (j : Id) (e : Event) → findIn s j ≡ some e → settled (view s) j ≡ true → ((a : Id) → ancestor (view s) j a ≡ true → line (view t) a ≡ line (view s) a) → line (view t) j ≡ line (view s) j
+      Kept : Id → Type 0
+      Kept j = line (view t) j ≡ line (view s) j
+
+      step : (j : Id) (e : Event) → findIn s j ≡ some e → settled (view s) j ≡ true → OfAncestors s Kept j → Kept j
       step j e m st past =
           let same = ancestor-kept j (e .presented) st in
           let m′ = found-kept j e m in
@@ -114,20 +117,21 @@ module _ (s t : List Event) (c : DistinctIds t) (h : Within s t) where
   from-kept a e st = rw (given-kept e st, target-kept e st)
 
   pub sound-kept : (i : Id) → settled (view s) i ≡ true → sound (view t) i ≡ sound (view s) i
-  sound-kept = settled-ind s (λ j. sound (view t) j ≡ sound (view s) j) step
+  sound-kept = settled-ind s Kept step
     where
-      Parents : Event → Type 0
-      Parents e = isCreate e ≡ false → (p : Id) → List·Memᴰ p (e .parents) → (settled (view s) p ≡ true) × (sound (view t) p ≡ sound (view s) p)
+      Kept : Id → Type 0
+      Kept j = sound (view t) j ≡ sound (view s) j
 
-      step : (j : Id) (e : Event) → findIn s j ≡ some e → settled (view s) j ≡ true → Parents e → sound (view t) j ≡ sound (view s) j
+      step : (j : Id) (e : Event) → findIn s j ≡ some e → settled (view s) j ≡ true → OfParents Kept e → Kept j
       step j e m st up =
           sound-law t j e (found-kept j e m) (settled-kept j st)
           ∙ from-kept (sound (view t)) e (ap (settled (view s)) (find→ s j e m .1) ∙ st)
-          ∙ from-cong (view s) (sound (view t)) (sound (view s)) e (λ f p n. up f p n .1)
+          ∙ from-cong (view s) (sound (view t)) (sound (view s)) e (λ f p n. up f p n)
           ∙ sym (sound-law s j e m st)
 
 -- every grant on an effective event's line is effective
-pub line-effective : (s : List Event) → DistinctIds s → (i g : Id) → effective (view s) i ≡ true → List·Memᴰ g (line (view s) i) → effective (view s) g ≡ true
+pub line-effective : (s : List Event) → DistinctIds s → (i g : Id) → effective (view s) i ≡ true
+    → List·Memᴰ g (line (view s) i) → effective (view s) g ≡ true
 line-effective s d i g y n = effective-holds s d .all-others g (sound-ancestor s i g t (o .is-ancestor)) unstruck
   where
     t : sound (view s) i ≡ true
@@ -135,6 +139,10 @@ line-effective s d i g y n = effective-holds s d .all-others g (sound-ancestor s
 
     o : OnLine s i g
     o = on-line s i g (sound-settled s i t) n
+
+    reaches : (x : Struck s (effective (view s)) g) → ancestor (view s) (x .revoker .ident) i ≡ true
+        → ancestor (view s) (x .revoker .ident) i ≡ false
+    reaches x k = clash (ancestor (view s) (x .revoker .ident) g) (ancestor-trans s (x .revoker .ident) i g k (o .is-ancestor)) (x .not-ancestor)
 
     -- a revoke that strikes g strikes what lies below it
     unstruck : Struck s (effective (view s)) g → ⊥
@@ -146,5 +154,5 @@ line-effective s d i g y n = effective-holds s d .all-others g (sound-ancestor s
           is-revoke = x .is-revoke;
           is-effective = x .is-effective;
           target-on-line = o .part-of (x .revoker .target) (x .target-on-line);
-          not-ancestor = byBool (ancestor (view s) (x .revoker .ident) i) (λ k. clash (ancestor (view s) (x .revoker .ident) g) (ancestor-trans s (x .revoker .ident) i g k (o .is-ancestor)) (x .not-ancestor)) (λ f. f);
+          not-ancestor = byBool (ancestor (view s) (x .revoker .ident) i) (reaches x) (λ f. f);
         })

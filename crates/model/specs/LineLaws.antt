@@ -12,14 +12,16 @@ use Rattle.model.specs.Events.{Id, Event, isCreate}
 use Rattle.model.specs.Heights.{findIn, view, height, settled, ancestor}
 use Rattle.model.specs.Verdicts.{lineIn, line}
 use Rattle.model.specs.HeightLaws.{settled→, settled←}
-use Rattle.model.specs.AncestryLaws.{steady, ancestor-creator, ancestor-waiting, ancestor-height, ancestor-trans, past-ind}
+use Rattle.model.specs.AncestryLaws.{steady, ancestor-creator, ancestor-waiting, ancestor-height, ancestor-trans, OfAncestors, past-ind}
 
 module _ (s : List Event) where
-  in-presents : (k : ℕ) (i : Id) (e : Event) → findIn s i ≡ some e → ancestor (view s) i (e .presented) ≡ true → lineIn (view s) (suc k) i ≡ (e .presented ∷ lineIn (view s) k (e .presented))
+  in-presents : (k : ℕ) (i : Id) (e : Event) → findIn s i ≡ some e → ancestor (view s) i (e .presented) ≡ true
+      → lineIn (view s) (suc k) i ≡ (e .presented ∷ lineIn (view s) k (e .presented))
   unfolding lineIn
   in-presents k i e m t = rw (m, t)
 
-  in-ends : (k : ℕ) (i : Id) (e : Event) → findIn s i ≡ some e → ancestor (view s) i (e .presented) ≡ false → lineIn (view s) k i ≡ []
+  in-ends : (k : ℕ) (i : Id) (e : Event) → findIn s i ≡ some e → ancestor (view s) i (e .presented) ≡ false
+      → lineIn (view s) k i ≡ []
   unfolding lineIn
   in-ends zero i e m f = refl
   in-ends (suc k) i e m f = rw (m, f)
@@ -29,9 +31,13 @@ module _ (s : List Event) where
   Enough i = (k h : ℕ) → height (view s) i ≡ some h → h ≤ k → lineIn (view s) (suc k) i ≡ lineIn (view s) k i
 
   enough : (i : Id) → settled (view s) i ≡ true → Enough i
-  enough = past-ind s Enough (λ i e m t up k h q l. byBool (ancestor (view s) i (e .presented)) (on i e m h q up k l) (λ f. in-ends (suc k) i e m f ∙ sym (in-ends k i e m f)))
+  enough =
+      past-ind s Enough
+      (λ i e m t up k h q l. byBool (ancestor (view s) i (e .presented)) (on i e m h q up k l)
+      (λ f. in-ends (suc k) i e m f ∙ sym (in-ends k i e m f)))
     where
-      on : (i : Id) (e : Event) → findIn s i ≡ some e → (h : ℕ) → height (view s) i ≡ some h → ((a : Id) → ancestor (view s) i a ≡ true → Enough a)
+      on : (i : Id) (e : Event) → findIn s i ≡ some e → (h : ℕ) → height (view s) i ≡ some h
+          → ((a : Id) → ancestor (view s) i a ≡ true → Enough a)
           → (k : ℕ) → h ≤ k → ancestor (view s) i (e .presented) ≡ true → lineIn (view s) (suc k) i ≡ lineIn (view s) k i
       on i e m h q up zero l t = let w = ancestor-height s i (e .presented) h q t in let z : ⊥ = omega (arith, w .2) in absurd z
       on i e m h q up (suc k) l t =
@@ -44,12 +50,15 @@ module _ (s : List Event) where
   steps i h k q l = rw q (sym (steady (λ (j : ℕ). lineIn (view s) j i) h (λ j g. enough i (settled← (view s) i h q) j h q g) k l))
 
   -- the presented id where it is that of an ancestor P, then the line of P
-  pub line-presents : (i : Id) (e : Event) → findIn s i ≡ some e → settled (view s) i ≡ true → ancestor (view s) i (e .presented) ≡ true → line (view s) i ≡ (e .presented ∷ line (view s) (e .presented))
+  pub line-presents : (i : Id) (e : Event) → findIn s i ≡ some e → settled (view s) i ≡ true
+      → ancestor (view s) i (e .presented) ≡ true → line (view s) i ≡ (e .presented ∷ line (view s) (e .presented))
   line-presents i e m st t =
       let w = settled→ (view s) i st in
       let x = ancestor-height s i (e .presented) (w .0) (w .1) t in
       let rest = steps (e .presented) (x .0) (w .0) (x .1) (omega (arith, x .2)) in
-      steps i (w .0) (suc (w .0)) (w .1) (omega arith) ∙ in-presents (w .0) i e m t ∙ ap (λ (y : List Id). e .presented ∷ y) (sym rest)
+      steps i (w .0) (suc (w .0)) (w .1) (omega arith)
+      ∙ in-presents (w .0) i e m t
+      ∙ ap (λ (y : List Id). e .presented ∷ y) (sym rest)
 
   -- else nothing
   pub line-ends : (i : Id) (e : Event) → findIn s i ≡ some e → ancestor (view s) i (e .presented) ≡ false → line (view s) i ≡ []
@@ -62,7 +71,8 @@ module _ (s : List Event) where
   -- induction along the lines of settled events
   pub line-ind : (P : Id → Type 0)
       → ((i : Id) → settled (view s) i ≡ true → line (view s) i ≡ [] → P i)
-      → ((i p : Id) → settled (view s) i ≡ true → ancestor (view s) i p ≡ true → line (view s) i ≡ (p ∷ line (view s) p) → P p → P i)
+      → ((i p : Id) → settled (view s) i ≡ true → ancestor (view s) i p ≡ true
+      → line (view s) i ≡ (p ∷ line (view s) p) → P p → P i)
       → (i : Id) → settled (view s) i ≡ true → P i
   line-ind P end up =
       past-ind s P
@@ -82,7 +92,8 @@ module _ (s : List Event) where
       end : (j : Id) → settled (view s) j ≡ true → line (view s) j ≡ [] → List·Memᴰ x (line (view s) j) → OnLine j x
       end j t e n = absurd (List·Memᴰ·not-nil (rw e at n))
 
-      up : (j p : Id) → settled (view s) j ≡ true → ancestor (view s) j p ≡ true → line (view s) j ≡ (p ∷ line (view s) p) → (List·Memᴰ x (line (view s) p) → OnLine p x) → List·Memᴰ x (line (view s) j) → OnLine j x
+      up : (j p : Id) → settled (view s) j ≡ true → ancestor (view s) j p ≡ true → line (view s) j ≡ (p ∷ line (view s) p)
+          → (List·Memᴰ x (line (view s) p) → OnLine p x) → List·Memᴰ x (line (view s) j) → OnLine j x
       up j p t a e rest n = ⊎-elim here there (List·Memᴰ·cases-cons (rw e at n))
         where
           len : length (line (view s) j) ≡ suc (length (line (view s) p))

@@ -29,13 +29,14 @@ use Rattle.model.specs.Verdicts.{
   hasRight,
   coversBody,
   targetSuits,
+  permits,
   soundFrom,
   soundIn,
   sound,
 }
 use Rattle.model.specs.SetLaws.{DistinctIds, find→, find←}
-use Rattle.model.specs.HeightLaws.{height→, height-found, height-creator, settled→, settled←, settled-ind}
-use Rattle.model.specs.AncestryLaws.{steady, ancestor-settled, past-ind, first-step, first-settled}
+use Rattle.model.specs.HeightLaws.{height→, height-found, height-creator, settled→, settled←, OfParents, settled-ind}
+use Rattle.model.specs.AncestryLaws.{steady, ancestor-settled, OfAncestors, past-ind, first-step, first-settled}
 use Rattle.model.specs.LineLaws.{line-presents, line-creator}
 
 -- "a revoke's target is an ancestor of kind grant, and P is on the target's line"
@@ -60,13 +61,15 @@ pub record SoundBy (v : View) (e : Event) : Type 0 where
   -- "P has right 2 for a grant, 4 for a revoke, 1 for join and unplug"
   pub has-right : has (given .rights) (rightFor (e .body)) ≡ true
   -- "a grant's rights lie within P's"
-  pub rights-within : (f : Grant) (q : ℕ) → e .body ≡ grant f → List·Memᴰ q allRights → has (f .rights) q ≡ true → has (given .rights) q ≡ true
+  pub rights-within : (f : Grant) (q : ℕ) → e .body ≡ grant f → List·Memᴰ q allRights → has (f .rights) q ≡ true
+      → has (given .rights) q ≡ true
   -- a revoke's target
   pub target-suits : isRevoke e ≡ true → TargetBy v e
 
 -- ── each test and its condition ─────────────────────────────────────────────────────────────────────────────────────────
 
-covers→ : (g f : Grant) → covers g f ≡ true → (q : ℕ) → List·Memᴰ q allRights → has (f .rights) q ≡ true → has (g .rights) q ≡ true
+covers→ : (g f : Grant) → covers g f ≡ true → (q : ℕ) → List·Memᴰ q allRights → has (f .rights) q ≡ true
+    → has (g .rights) q ≡ true
 unfolding covers within
 covers→ g f t q n h =
     ⊎-elim
@@ -74,7 +77,8 @@ covers→ g f t q n h =
     (λ k. k)
     (or→ (not (has (f .rights) q)) (has (g .rights) q) (all→ (λ x. not (has (f .rights) x) || has (g .rights) x) allRights t q n))
 
-covers← : (g f : Grant) → ((q : ℕ) → List·Memᴰ q allRights → has (f .rights) q ≡ true → has (g .rights) q ≡ true) → covers g f ≡ true
+covers← : (g f : Grant) → ((q : ℕ) → List·Memᴰ q allRights → has (f .rights) q ≡ true → has (g .rights) q ≡ true)
+    → covers g f ≡ true
 unfolding covers within
 covers← g f h =
     all← (λ x. not (has (f .rights) x) || has (g .rights) x) allRights
@@ -142,15 +146,16 @@ module _ (v : View) (e : Event) where
           rw (r, w .target-ancestor, w .target-found, w .target-grants, on)
 
   from→ : isCreate e ≡ false → soundFrom v (sound v) e ≡ true → SoundBy v e
-  unfolding soundFrom parentsSound toAuthor hasRight
+  unfolding soundFrom parentsSound permits toAuthor hasRight
   from→ f t =
-      let permits : Grant → Bool = λ g. eqb (g .subject) (e .author) && has (g .rights) (rightFor (e .body)) && coversBody g (e .body) in
-      let all = and→ (allOf (sound v) (e .parents) && maybe false permits (presentedGrant v e)) (targetSuits v e) (rw f at t) in
-      let two = and→ (allOf (sound v) (e .parents)) (maybe false permits (presentedGrant v e)) (all .0) in
-      byOption (presentedGrant v e) (λ n. clash false (rw n at (two .1)) refl) (λ g q. made g q (two .0) (rw q at (two .1)) (all .1))
+      let all = and→ (allOf (sound v) (e .parents) && maybe false (permits e) (presentedGrant v e)) (targetSuits v e) (rw f at t) in
+      let two = and→ (allOf (sound v) (e .parents)) (maybe false (permits e) (presentedGrant v e)) (all .0) in
+      byOption (presentedGrant v e)
+      (λ n. clash false (rw n at (two .1)) refl)
+      (λ g q. made g q (two .0) (ap (maybe false (permits e)) (sym q) ∙ two .1) (all .1))
     where
       made : (g : Grant) → presentedGrant v e ≡ some g → allOf (sound v) (e .parents) ≡ true
-          → (eqb (g .subject) (e .author) && has (g .rights) (rightFor (e .body)) && coversBody g (e .body)) ≡ true → targetSuits v e ≡ true → SoundBy v e
+          → permits e g ≡ true → targetSuits v e ≡ true → SoundBy v e
       made g q ps k ts =
           let p = given→ g q in
           let all = and→ (eqb (g .subject) (e .author) && has (g .rights) (rightFor (e .body))) (coversBody g (e .body)) k in
@@ -169,7 +174,7 @@ module _ (v : View) (e : Event) where
           }
 
   from← : isCreate e ≡ false → SoundBy v e → soundFrom v (sound v) e ≡ true
-  unfolding soundFrom parentsSound toAuthor hasRight
+  unfolding soundFrom parentsSound permits toAuthor hasRight
   from← f c =
       let p = given← (c .given) (c .giver, c .presents-ancestor, c .giver-found, c .giver-gives) in
       let a = eq-eqb (c .given .subject) (e .author) (c .to-author) in
@@ -179,12 +184,14 @@ module _ (v : View) (e : Event) where
 -- ── the laws ────────────────────────────────────────────────────────────────────────────────────────────────────────────
 
 -- soundness asks the other ids only for the parents
-pub from-cong : (v : View) (a b : Id → Bool) (e : Event) → (isCreate e ≡ false → (p : Id) → List·Memᴰ p (e .parents) → a p ≡ b p) → soundFrom v a e ≡ soundFrom v b e
+pub from-cong : (v : View) (a b : Id → Bool) (e : Event)
+    → (isCreate e ≡ false → (p : Id) → List·Memᴰ p (e .parents) → a p ≡ b p) → soundFrom v a e ≡ soundFrom v b e
 unfolding soundFrom parentsSound
 from-cong v a b e h = byBool (isCreate e) (λ t. rw t) (λ f. rw (f, all-cong a b (e .parents) (h f)))
 
 module _ (s : List Event) where
-  in-step : (k : ℕ) (i : Id) (e : Event) → findIn s i ≡ some e → soundIn (view s) (suc k) i ≡ soundFrom (view s) (soundIn (view s) k) e
+  in-step : (k : ℕ) (i : Id) (e : Event) → findIn s i ≡ some e
+      → soundIn (view s) (suc k) i ≡ soundFrom (view s) (soundIn (view s) k) e
   unfolding soundIn
   in-step k i e m = rw m
 
@@ -195,25 +202,29 @@ module _ (s : List Event) where
   enough : (i : Id) → settled (view s) i ≡ true → Enough i
   enough = settled-ind s Enough step
     where
-      step : (i : Id) (e : Event) → findIn s i ≡ some e → settled (view s) i ≡ true
-          → (isCreate e ≡ false → (p : Id) → List·Memᴰ p (e .parents) → (settled (view s) p ≡ true) × Enough p) → Enough i
+      step : (i : Id) (e : Event) → findIn s i ≡ some e → settled (view s) i ≡ true → OfParents Enough e → Enough i
       step i e m t up zero h q l = let z : ⊥ = omega arith in absurd z
-      step i e m t up (suc k) h q l = in-step (suc k) i e m ∙ from-cong (view s) (soundIn (view s) (suc k)) (soundIn (view s) k) e parent ∙ sym (in-step k i e m)
+      step i e m t up (suc k) h q l =
+          in-step (suc k) i e m ∙ from-cong (view s) (soundIn (view s) (suc k)) (soundIn (view s) k) e parent ∙ sym (in-step k i e m)
         where
           parent : isCreate e ≡ false → (p : Id) → List·Memᴰ p (e .parents) → soundIn (view s) (suc k) p ≡ soundIn (view s) k p
-          parent f p n = let w = height→ s i e h m f q .each p n in up f p n .1 k (w .0) (w .1) (omega (arith, w .2))
+          parent f p n = let w = height→ s i e h m f q .each p n in up f p n k (w .0) (w .1) (omega (arith, w .2))
 
   steps : (i : Id) (h k : ℕ) → height (view s) i ≡ some h → h < k → sound (view s) i ≡ soundIn (view s) k i
   unfolding sound
-  steps i h k q l = rw q (sym (steady (λ (j : ℕ). soundIn (view s) j i) (suc h) (λ j g. enough i (settled← (view s) i h q) j h q g) k l))
+  steps i h k q l =
+      rw q (sym (steady (λ (j : ℕ). soundIn (view s) j i) (suc h) (λ j g. enough i (settled← (view s) i h q) j h q g) k l))
 
   pub sound-settled : (i : Id) → sound (view s) i ≡ true → settled (view s) i ≡ true
   unfolding sound
   sound-settled i t = byOption (height (view s) i) (λ n. clash false (rw n at t) refl) (λ h q. rw q)
 
-  pub sound-law : (i : Id) (e : Event) → findIn s i ≡ some e → settled (view s) i ≡ true → sound (view s) i ≡ soundFrom (view s) (sound (view s)) e
+  pub sound-law : (i : Id) (e : Event) → findIn s i ≡ some e → settled (view s) i ≡ true
+      → sound (view s) i ≡ soundFrom (view s) (sound (view s)) e
   sound-law i e m t =
-      steps i (w .0) (suc (w .0)) (w .1) (omega arith) ∙ in-step (w .0) i e m ∙ from-cong (view s) (soundIn (view s) (w .0)) (sound (view s)) e parent
+      steps i (w .0) (suc (w .0)) (w .1) (omega arith)
+      ∙ in-step (w .0) i e m
+      ∙ from-cong (view s) (soundIn (view s) (w .0)) (sound (view s)) e parent
     where
       w : (h : ℕ) × (height (view s) i ≡ some h)
       w = settled→ (view s) i t
@@ -230,7 +241,8 @@ module _ (s : List Event) where
   pub sound→ : (i : Id) (e : Event) → findIn s i ≡ some e → isCreate e ≡ false → sound (view s) i ≡ true → SoundBy (view s) e
   sound→ i e m f t = from→ (view s) e f (sym (sound-law i e m (sound-settled i t)) ∙ t)
 
-  pub sound← : (i : Id) (e : Event) → findIn s i ≡ some e → isCreate e ≡ false → settled (view s) i ≡ true → SoundBy (view s) e → sound (view s) i ≡ true
+  pub sound← : (i : Id) (e : Event) → findIn s i ≡ some e → isCreate e ≡ false → settled (view s) i ≡ true
+      → SoundBy (view s) e → sound (view s) i ≡ true
   sound← i e m f st c = sound-law i e m st ∙ from← (view s) e f c
 
   -- a sound event is held
@@ -247,14 +259,13 @@ module _ (s : List Event) where
       Passes : Id → Type 0
       Passes j = sound (view s) j ≡ true → ancestor (view s) j a ≡ true → sound (view s) a ≡ true
 
-      step : (j : Id) (e : Event) → findIn s j ≡ some e → settled (view s) j ≡ true
-          → (isCreate e ≡ false → (p : Id) → List·Memᴰ p (e .parents) → (settled (view s) p ≡ true) × Passes p) → Passes j
+      step : (j : Id) (e : Event) → findIn s j ≡ some e → settled (view s) j ≡ true → OfParents Passes e → Passes j
       step j e m st up y z =
           let v = first-step s j a e m z in
           let p = sound→ j e m (v .not-creator) y .parents-sound (v .parent) (v .is-parent) in
           ⊎-elim
           (λ r. ap (sound (view s)) (sym r) ∙ p)
-          (λ r. up (v .not-creator) (v .parent) (v .is-parent) .1 p r)
+          (λ r. up (v .not-creator) (v .parent) (v .is-parent) p r)
           (v .leads)
 
   -- ── the lines of sound events ─────────────────────────────────────────────────────────────────────────────────────────
@@ -267,17 +278,20 @@ module _ (s : List Event) where
 
   pub presents : (i : Id) (e : Event) → findIn s i ≡ some e → isCreate e ≡ false → sound (view s) i ≡ true → Presents i e
   presents i e m f t =
-      let a : ancestor (view s) i (e .presented) ≡ true = ap (λ (x : Id). ancestor (view s) x (e .presented)) (sym (find→ s i e m .1)) ∙ sound→ i e m f t .presents-ancestor in
       record {
         is-ancestor = a;
         is-sound = sound-ancestor i (e .presented) t a;
         line-is = line-presents s i e m (sound-settled i t) a;
       }
+    where
+      a : ancestor (view s) i (e .presented) ≡ true
+      a = ap (λ (x : Id). ancestor (view s) x (e .presented)) (sym (find→ s i e m .1)) ∙ sound→ i e m f t .presents-ancestor
 
 -- "The line of an event is P, then the line of P, up to the creator"
 pub record LinesBy (s : List Event) (line : Id → List Id) : Type 0 where
   pub of-creator : (e : Event) → List·Memᴰ e s → isCreate e ≡ true → line (e .ident) ≡ []
-  pub of-others : (e : Event) → List·Memᴰ e s → sound (view s) (e .ident) ≡ true → isCreate e ≡ false → line (e .ident) ≡ (e .presented ∷ line (e .presented))
+  pub of-others : (e : Event) → List·Memᴰ e s → sound (view s) (e .ident) ≡ true → isCreate e ≡ false
+      → line (e .ident) ≡ (e .presented ∷ line (e .presented))
 
 module _ (s : List Event) where
   -- the lines meet the sentence
@@ -295,7 +309,8 @@ module _ (s : List Event) where
       Same : Id → Type 0
       Same j = sound (view s) j ≡ true → other j ≡ line (view s) j
 
-      step : (j : Id) (e : Event) → findIn s j ≡ some e → settled (view s) j ≡ true → ((a : Id) → ancestor (view s) j a ≡ true → Same a) → Same j
+      step : (j : Id) (e : Event) → findIn s j ≡ some e → settled (view s) j ≡ true
+          → OfAncestors s Same j → Same j
       step j e m st past y =
           let w = find→ s j e m in
           ap other (sym (w .1)) ∙ byBool (isCreate e)

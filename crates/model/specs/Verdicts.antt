@@ -84,13 +84,18 @@ coversBody g (unplug a) = true
 unfoldable pub targetSuits : View → Event → Bool
 targetSuits v e =
     not (isRevoke e)
-    || (ancestor v (e .ident) (e .target) && maybe false isGrant (v .find (e .target)) && memberOf (e .presented) (line v (e .target)))
+    || (ancestor v (e .ident) (e .target)
+    && maybe false isGrant (v .find (e .target))
+    && memberOf (e .presented) (line v (e .target)))
+
+-- the three conditions on what P gives
+unfoldable pub permits : Event → Grant → Bool
+permits e g = toAuthor e g && hasRight e g && coversBody g (e .body)
 
 -- the five conditions, from the parents' soundness
 unfoldable pub soundFrom : View → (Id → Bool) → Event → Bool
 soundFrom v sound e =
-    isCreate e
-    || (parentsSound sound e && maybe false (λ g. toAuthor e g && hasRight e g && coversBody g (e .body)) (presentedGrant v e) && targetSuits v e)
+    isCreate e || (parentsSound sound e && maybe false (permits e) (presentedGrant v e) && targetSuits v e)
 
 unfoldable pub soundIn : View → ℕ → Id → Bool
 soundIn v zero i = false

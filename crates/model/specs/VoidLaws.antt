@@ -21,7 +21,7 @@ use Rattle.model.specs.AncestryLaws.{steady, ancestor-settled, ancestor-
 use Rattle.model.specs.LineLaws.{line-creator, on-line}
 use Rattle.model.specs.SoundLaws.{sound→, sound-settled, sound-creator, presents}
 
--- "some effective revoke has its target on the event's line and does not have the event as an ancestor", with a test for effective
+-- "some effective revoke has its target on the event's line and does not have the event as an ancestor", by a test for effective
 pub record Struck (s : List Event) (effective : Id → Bool) (i : Id) : Type 0 where
   pub revoker : Event
   pub held : List·Memᴰ revoker s
@@ -67,13 +67,15 @@ no-creator (unplug a) t = refl
 
 module _ (s : List Event) (d : DistinctIds s) where
   -- a sound revoke that strikes an event has a shorter line
-  pub strike-shorter : (r : Event) (i : Id) → List·Memᴰ r s → sound (view s) (r .ident) ≡ true → settled (view s) i ≡ true → Strike (view s) r i → length (line (view s) (r .ident)) < length (line (view s) i)
+  pub strike-shorter : (r : Event) (i : Id) → List·Memᴰ r s → sound (view s) (r .ident) ≡ true → settled (view s) i ≡ true
+      → Strike (view s) r i → length (line (view s) (r .ident)) < length (line (view s) i)
   strike-shorter r i m t st c =
       let found = find← s d r m in
       let nc = no-creator (r .body) (c .is-revoke) in
       let p = presents s (r .ident) r found nc t in
       let target = sound→ s (r .ident) r found nc t .target-suits (c .is-revoke) in
-      let above = on-line s (r .target) (r .presented) (ancestor-settled s (r .ident) (r .target) (target .target-ancestor)) (target .presents-above) in
+      let ts = ancestor-settled s (r .ident) (r .target) (target .target-ancestor) in
+      let above = on-line s (r .target) (r .presented) ts (target .presents-above) in
       let below = on-line s i (r .target) st (c .target-on-line) in
       let len = ap length (p .line-is) in
       omega (arith, len, above .shorter, below .shorter)
@@ -97,23 +99,29 @@ module _ (s : List Event) (d : DistinctIds s) where
       → ((j : Id) → sound (view s) j ≡ false → a j ≡ b j)
       → ((j : Id) → sound (view s) j ≡ true → length (line (view s) j) < length (line (view s) i) → a j ≡ b j)
       → strikers a i ≡ strikers b i
-  strikers-cong a b i t off on = any-cong _ _ (view s .byId) (λ r n. byBool (strikes (view s) r i) (λ y. rw y (same r n y)) (λ f. rw f))
+  strikers-cong a b i t off on =
+      any-cong _ _ (view s .byId) (λ r n. byBool (strikes (view s) r i) (λ y. rw y (same r n y)) (λ f. rw f))
     where
       same : (r : Event) → List·Memᴰ r (view s .byId) → strikes (view s) r i ≡ true → a (r .ident) ≡ b (r .ident)
       same r n y =
+          let m = sort-mem (λ e. e .ident) s r n in
           byBool (sound (view s) (r .ident))
-          (λ u. on (r .ident) u (strike-shorter r i (sort-mem (λ e. e .ident) s r n) u (sound-settled s i t) (strikes→ (view s) r i y)))
+          (λ u. on (r .ident) u (strike-shorter r i m u (sound-settled s i t) (strikes→ (view s) r i y)))
           (λ f. off (r .ident) f)
 
   enough : (k : ℕ) (i : Id) → length (line (view s) i) < k → effectiveIn (view s) (suc k) i ≡ effectiveIn (view s) k i
   enough zero i l = let z : ⊥ = omega arith in absurd z
-  enough (suc k) i l = byBool (sound (view s) i) (sounds (λ j h. enough k j h)) (λ f. in-unsound (suc (suc k)) i f ∙ sym (in-unsound (suc k) i f))
+  enough (suc k) i l =
+      byBool (sound (view s) i) (sounds (λ j h. enough k j h))
+      (λ f. in-unsound (suc (suc k)) i f ∙ sym (in-unsound (suc k) i f))
     where
       sounds : ((j : Id) → length (line (view s) j) < k → effectiveIn (view s) (suc k) j ≡ effectiveIn (view s) k j)
           → sound (view s) i ≡ true → effectiveIn (view s) (suc (suc k)) i ≡ effectiveIn (view s) (suc k) i
       sounds below t =
-          let off : (j : Id) → sound (view s) j ≡ false → effectiveIn (view s) (suc k) j ≡ effectiveIn (view s) k j = λ j f. in-unsound (suc k) j f ∙ sym (in-unsound k j f) in
-          let same = strikers-cong (effectiveIn (view s) (suc k)) (effectiveIn (view s) k) i t off (λ j u h. below j (omega arith)) in
+          let same =
+          strikers-cong (effectiveIn (view s) (suc k)) (effectiveIn (view s) k) i t
+          (λ j f. in-unsound (suc k) j f ∙ sym (in-unsound k j f))
+          (λ j u h. below j (omega arith)) in
           in-step (suc k) i ∙ ap (λ (x : Bool). sound (view s) i && not x) same ∙ sym (in-step k i)
 
   steps : (i : Id) (k : ℕ) → length (line (view s) i) < k → effective (view s) i ≡ effectiveIn (view s) k i
@@ -139,7 +147,8 @@ module _ (s : List Event) (d : DistinctIds s) where
       off : (j : Id) → sound (view s) j ≡ false → effectiveIn (view s) n j ≡ effective (view s) j
       off j f = in-unsound n j f ∙ sym (effective-unsound j f)
 
-      sounds : sound (view s) i ≡ true → (sound (view s) i && not (strikers (effectiveIn (view s) n) i)) ≡ (sound (view s) i && not (strikers (effective (view s)) i))
+      sounds : sound (view s) i ≡ true
+          → (sound (view s) i && not (strikers (effectiveIn (view s) n) i)) ≡ (sound (view s) i && not (strikers (effective (view s)) i))
       sounds t =
           ap (λ (x : Bool). sound (view s) i && not x)
           (strikers-cong (effectiveIn (view s) n) (effective (view s)) i t off (λ j u h. sym (steps j n h)))
@@ -163,8 +172,12 @@ module _ (s : List Event) (d : DistinctIds s) where
 
   strikers← : (a : Id → Bool) (i : Id) → Struck s a i → strikers a i ≡ true
   strikers← a i x =
-      any← (λ r. strikes (view s) r i && a (r .ident)) (view s .byId) (x .revoker) (mem-sort (λ e. e .ident) s (x .revoker) (x .held))
+      any← (λ r. strikes (view s) r i && a (r .ident)) (view s .byId) (x .revoker)
+      (mem-sort (λ e. e .ident) s (x .revoker) (x .held))
       (and← _ _ (strikes← (view s) (x .revoker) i (struck-strike a i x)) (x .is-effective))
+
+  struck-off : (i : Id) → Struck s (effective (view s)) i → effective (view s) i ≡ false
+  struck-off i x = effective-law i ∙ rw (strikers← (effective (view s)) i x) (byBool (sound (view s) i) (λ t. rw t) (λ f. rw f))
 
   -- "A sound event is void exactly when some effective revoke has its target on the event's line and does not have the event as
   -- an ancestor."
@@ -178,19 +191,20 @@ module _ (s : List Event) (d : DistinctIds s) where
 
   pub void← : (i : Id) → sound (view s) i ≡ true → Struck s (effective (view s)) i → void (view s) i ≡ true
   unfolding void
-  void← i t x = let off : effective (view s) i ≡ false = effective-law i ∙ rw (t, strikers← (effective (view s)) i x) in rw (t, off)
+  void← i t x = rw (t, struck-off i x)
 
   -- the effective events meet the sentence
   pub effective-holds : EffectiveBy s (effective (view s))
   effective-holds =
       record {
         only-sound = effective-sound;
-        not-struck = λ i t x. clash (effective (view s) i) t (effective-law i ∙ rw (effective-sound i t, strikers← (effective (view s)) i x));
+        not-struck = λ i t x. clash (effective (view s) i) t (struck-off i x);
         all-others = λ i t unstruck. effective-law i ∙ rw (t, free i unstruck);
       }
     where
       free : (i : Id) → (Struck s (effective (view s)) i → ⊥) → strikers (effective (view s)) i ≡ false
-      free i unstruck = byBool (strikers (effective (view s)) i) (λ y. absurd (unstruck (strikers→ (effective (view s)) i y))) (λ f. f)
+      free i unstruck =
+          byBool (strikers (effective (view s)) i) (λ y. absurd (unstruck (strikers→ (effective (view s)) i y))) (λ f. f)
 
   -- struck by one test, then by another that agrees with it on what has a shorter line
   struck-cong : (a b : Id → Bool) (i : Id) → ((j : Id) → a j ≡ true → sound (view s) j ≡ true) → sound (view s) i ≡ true
