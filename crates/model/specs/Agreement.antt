@@ -1,5 +1,4 @@
 -- Two lists with the same members and no shared ids have one view, so every answer agrees on them.
-use Prim.Native.Nat.{ℕ}
 use mathlib.Core.Path.{_≡_, sym, ap, _∙_, fun-ext}
 use mathlib.Core.Option.{none, some}
 use mathlib.Core.List.{List}

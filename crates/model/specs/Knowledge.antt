@@ -1,22 +1,18 @@
 -- What is settled in a set stays in every larger one: its height, ancestors, line and soundness. And every grant on an effective
 -- event's line is effective.
-use Prim.Native.Nat.{ℕ, zero, suc, _<_}
-use native.Mathlib.Omega.{arith}
-use mathlib.Core.Path.{_≡_, refl, sym, ap, ap₂, _∙_}
-use mathlib.Core.Logic.{⊎-elim}
-use mathlib.Core.Bool.{Bool, true, false, not, _&&_, _||_}
-use mathlib.Core.Option.{Option, none, some}
-use mathlib.Core.List.{List, [], _∷_, List·Memᴰ}
-use Rattle.lists.specs.Cases.{byBool, byOption, clash}
+use Prim.Native.Nat.{ℕ}
+use mathlib.Core.Path.{_≡_, sym, ap, _∙_}
+use mathlib.Core.Bool.{Bool, true, false, _||_}
+use mathlib.Core.Option.{some}
+use mathlib.Core.List.{List, _∷_, List·Memᴰ}
+use Rattle.lists.specs.Cases.{byBool, clash}
 use Rattle.lists.specs.Bytes.{sameBytes}
-use Rattle.lists.specs.Tests.{Within, any-cong, all-cong}
-use Rattle.event.specs.declared.Grant.{Grant}
-use Rattle.model.specs.Events.{Id, Event, isCreate, isRevoke}
+use Rattle.lists.specs.Tests.{Within, any-cong}
+use Rattle.model.specs.Events.{Id, Event, isCreate}
 use Rattle.model.specs.Heights.{findIn, view, height, settled, ancestor}
-use Rattle.model.specs.Verdicts.{line, parentsSound, presentedGrant, targetSuits, soundFrom, sound, effective}
+use Rattle.model.specs.Verdicts.{line, presentedGrant, targetSuits, soundFrom, sound, effective}
 use Rattle.model.specs.SetLaws.{DistinctIds, find→, find←}
 use Rattle.model.specs.HeightLaws.{
-  OneAbove,
   height→,
   height←,
   height-creator,
@@ -142,7 +138,9 @@ line-effective s d i g y n = effective-holds s d .all-others g (sound-ancestor s
 
     reaches : (x : Struck s (effective (view s)) g) → ancestor (view s) (x .revoker .ident) i ≡ true
         → ancestor (view s) (x .revoker .ident) i ≡ false
-    reaches x k = clash (ancestor (view s) (x .revoker .ident) g) (ancestor-trans s (x .revoker .ident) i g k (o .is-ancestor)) (x .not-ancestor)
+    reaches x k =
+        let r = x .revoker .ident in
+        clash (ancestor (view s) r g) (ancestor-trans s r i g k (o .is-ancestor)) (x .not-ancestor)
 
     -- a revoke that strikes g strikes what lies below it
     unstruck : Struck s (effective (view s)) g → ⊥

@@ -3,16 +3,16 @@ use Prim.Native.Nat.{ℕ, zero, suc, _≤_, _<_}
 use native.Mathlib.Omega.{arith}
 use mathlib.Core.Path.{_≡_, refl, sym, ap, _∙_}
 use mathlib.Core.Logic.{⊎-elim}
-use mathlib.Core.Bool.{true, false, cond}
-use mathlib.Core.Option.{Option, none, some}
+use mathlib.Core.Bool.{true, false}
+use mathlib.Core.Option.{some}
 use mathlib.Core.List.{List, [], _∷_, List·Memᴰ, List·Memᴰ·tail, List·Memᴰ·cases-cons, List·Memᴰ·not-nil}
 use lib.ListN.{length}
-use Rattle.lists.specs.Cases.{byBool, byOption, clash}
+use Rattle.lists.specs.Cases.{byBool, byOption}
 use Rattle.model.specs.Events.{Id, Event, isCreate}
 use Rattle.model.specs.Heights.{findIn, view, height, settled, ancestor}
 use Rattle.model.specs.Verdicts.{lineIn, line}
 use Rattle.model.specs.HeightLaws.{settled→, settled←}
-use Rattle.model.specs.AncestryLaws.{steady, ancestor-creator, ancestor-waiting, ancestor-height, ancestor-trans, OfAncestors, past-ind}
+use Rattle.model.specs.AncestryLaws.{steady, ancestor-creator, ancestor-height, ancestor-trans, OfAncestors, past-ind}
 
 module _ (s : List Event) where
   in-presents : (k : ℕ) (i : Id) (e : Event) → findIn s i ≡ some e → ancestor (view s) i (e .presented) ≡ true
@@ -37,8 +37,8 @@ module _ (s : List Event) where
       (λ f. in-ends (suc k) i e m f ∙ sym (in-ends k i e m f)))
     where
       on : (i : Id) (e : Event) → findIn s i ≡ some e → (h : ℕ) → height (view s) i ≡ some h
-          → ((a : Id) → ancestor (view s) i a ≡ true → Enough a)
-          → (k : ℕ) → h ≤ k → ancestor (view s) i (e .presented) ≡ true → lineIn (view s) (suc k) i ≡ lineIn (view s) k i
+          → OfAncestors s Enough i → (k : ℕ) → h ≤ k → ancestor (view s) i (e .presented) ≡ true
+          → lineIn (view s) (suc k) i ≡ lineIn (view s) k i
       on i e m h q up zero l t = let w = ancestor-height s i (e .presented) h q t in let z : ⊥ = omega (arith, w .2) in absurd z
       on i e m h q up (suc k) l t =
           let w = ancestor-height s i (e .presented) h q t in

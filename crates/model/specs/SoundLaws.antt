@@ -1,14 +1,14 @@
 -- Soundness: exactly the five conditions; and the lines of sound events, which lead to the creator.
-use Prim.Native.Nat.{ℕ, zero, suc, _≤_, _<_}
+use Prim.Native.Nat.{ℕ, zero, suc, _<_}
 use native.Mathlib.Omega.{arith}
 use mathlib.Core.Path.{_≡_, refl, sym, ap, _∙_}
-use mathlib.Core.Logic.{_⊎_, ⊎-elim}
-use mathlib.Core.Bool.{Bool, true, false, cond, not, _&&_, _||_}
-use mathlib.Core.Option.{Option, none, some, Option·some-injective}
+use mathlib.Core.Logic.{⊎-elim}
+use mathlib.Core.Bool.{Bool, true, false, not, _&&_, _||_}
+use mathlib.Core.Option.{none, some}
 use mathlib.Core.List.{List, [], _∷_, List·Memᴰ}
 use lib.Dec.{eqb}
 use borrow.Author.Tests.{eqb-true, eq-eqb, not-true}
-use Rattle.lists.specs.Cases.{maybe, byBool, byOption, clash, clashOption, bool-eq, and→, and←, or→, or←l, or←r}
+use Rattle.lists.specs.Cases.{maybe, byBool, byOption, clash, clashOption, and→, or→, or←l, or←r}
 use Rattle.lists.specs.Tests.{allOf, memberOf, all→, all←, all-cong, member→, member←}
 use Rattle.event.specs.declared.Grant.{Grant}
 use Rattle.event.specs.declared.Body.{Body}
@@ -35,8 +35,8 @@ use Rattle.model.specs.Verdicts.{
   sound,
 }
 use Rattle.model.specs.SetLaws.{DistinctIds, find→, find←}
-use Rattle.model.specs.HeightLaws.{height→, height-found, height-creator, settled→, settled←, OfParents, settled-ind}
-use Rattle.model.specs.AncestryLaws.{steady, ancestor-settled, OfAncestors, past-ind, first-step, first-settled}
+use Rattle.model.specs.HeightLaws.{height→, height-creator, settled→, settled←, OfParents, settled-ind}
+use Rattle.model.specs.AncestryLaws.{steady, OfAncestors, past-ind, first-step, first-settled}
 use Rattle.model.specs.LineLaws.{line-presents, line-creator}
 
 -- "a revoke's target is an ancestor of kind grant, and P is on the target's line"
@@ -61,7 +61,7 @@ pub record SoundBy (v : View) (e : Event) : Type 0 where
   -- "P has right 2 for a grant, 4 for a revoke, 1 for join and unplug"
   pub has-right : has (given .rights) (rightFor (e .body)) ≡ true
   -- "a grant's rights lie within P's"
-  pub rights-within : (f : Grant) (q : ℕ) → e .body ≡ grant f → List·Memᴰ q allRights → has (f .rights) q ≡ true
+  pub rights-within : (f : Grant) (q : ℕ) → e .body ≡ grant f → List·Memᴰ q (1 ∷ 2 ∷ 4 ∷ []) → has (f .rights) q ≡ true
       → has (given .rights) q ≡ true
   -- a revoke's target
   pub target-suits : isRevoke e ≡ true → TargetBy v e
@@ -148,7 +148,8 @@ module _ (v : View) (e : Event) where
   from→ : isCreate e ≡ false → soundFrom v (sound v) e ≡ true → SoundBy v e
   unfolding soundFrom parentsSound permits toAuthor hasRight
   from→ f t =
-      let all = and→ (allOf (sound v) (e .parents) && maybe false (permits e) (presentedGrant v e)) (targetSuits v e) (rw f at t) in
+      let three = allOf (sound v) (e .parents) && maybe false (permits e) (presentedGrant v e) in
+      let all = and→ three (targetSuits v e) (rw f at t) in
       let two = and→ (allOf (sound v) (e .parents)) (maybe false (permits e) (presentedGrant v e)) (all .0) in
       byOption (presentedGrant v e)
       (λ n. clash false (rw n at (two .1)) refl)
@@ -205,7 +206,9 @@ module _ (s : List Event) where
       step : (i : Id) (e : Event) → findIn s i ≡ some e → settled (view s) i ≡ true → OfParents Enough e → Enough i
       step i e m t up zero h q l = let z : ⊥ = omega arith in absurd z
       step i e m t up (suc k) h q l =
-          in-step (suc k) i e m ∙ from-cong (view s) (soundIn (view s) (suc k)) (soundIn (view s) k) e parent ∙ sym (in-step k i e m)
+          in-step (suc k) i e m
+          ∙ from-cong (view s) (soundIn (view s) (suc k)) (soundIn (view s) k) e parent
+          ∙ sym (in-step k i e m)
         where
           parent : isCreate e ≡ false → (p : Id) → List·Memᴰ p (e .parents) → soundIn (view s) (suc k) p ≡ soundIn (view s) k p
           parent f p n = let w = height→ s i e h m f q .each p n in up f p n k (w .0) (w .1) (omega (arith, w .2))
@@ -244,13 +247,6 @@ module _ (s : List Event) where
   pub sound← : (i : Id) (e : Event) → findIn s i ≡ some e → isCreate e ≡ false → settled (view s) i ≡ true
       → SoundBy (view s) e → sound (view s) i ≡ true
   sound← i e m f st c = sound-law i e m st ∙ from← (view s) e f c
-
-  -- a sound event is held
-  pub sound-found : (i : Id) → sound (view s) i ≡ true → (e : Event) × (findIn s i ≡ some e)
-  sound-found i t =
-      let w = settled→ (view s) i (sound-settled i t) in
-      let v = height-found s i (w .0) (w .1) in
-      (v .0, v .1)
 
   -- the ancestors of a sound event are sound
   pub sound-ancestor : (i a : Id) → sound (view s) i ≡ true → ancestor (view s) i a ≡ true → sound (view s) a ≡ true

@@ -1,11 +1,10 @@
 -- Void and effective: the sentence that defines them, as conditions on any test; the test `effective` meets them, and nothing
 -- else does.
-use Prim.Native.Nat.{ℕ, zero, suc, _≤_, _<_}
+use Prim.Native.Nat.{ℕ, zero, suc, _<_}
 use native.Mathlib.Omega.{arith}
 use mathlib.Core.Path.{_≡_, refl, sym, ap, _∙_}
 use mathlib.Core.Bool.{Bool, true, false, not, _&&_}
-use mathlib.Core.Option.{some}
-use mathlib.Core.List.{List, [], _∷_, List·Memᴰ, List·Memᴰ·not-nil}
+use mathlib.Core.List.{List, List·Memᴰ, List·Memᴰ·not-nil}
 use lib.ListN.{length}
 use borrow.Author.Tests.{not-true}
 use Rattle.lists.specs.Cases.{byBool, clash, bool-eq, and→, and←}
@@ -14,10 +13,10 @@ use Rattle.lists.specs.Sorting.{sort-mem, mem-sort}
 use Rattle.event.specs.declared.Body.{Body}
 use Rattle.event.specs.declared.Body.the-variants.{Create as create, Grant as grant, Revoke as revoke, Join as join, Unplug as unplug}
 use Rattle.model.specs.Events.{Id, Event, creates, revokes, isCreate, isRevoke}
-use Rattle.model.specs.Heights.{findIn, View, view, settled, ancestor}
+use Rattle.model.specs.Heights.{View, view, settled, ancestor}
 use Rattle.model.specs.Verdicts.{line, sound, strikes, effectiveIn, effective, void}
 use Rattle.model.specs.SetLaws.{DistinctIds, find←}
-use Rattle.model.specs.AncestryLaws.{steady, ancestor-settled, ancestor-trans}
+use Rattle.model.specs.AncestryLaws.{steady, ancestor-settled}
 use Rattle.model.specs.LineLaws.{line-creator, on-line}
 use Rattle.model.specs.SoundLaws.{sound→, sound-settled, sound-creator, presents}
 
