@@ -36,7 +36,7 @@ use Rattle.model.specs.Verdicts.{
 }
 use Rattle.model.specs.SetLaws.{DistinctIds, find→, find←}
 use Rattle.model.specs.HeightLaws.{height→, height-creator, settled→, settled←, OfParents, settled-ind}
-use Rattle.model.specs.AncestryLaws.{steady, OfAncestors, past-ind, first-step, first-settled}
+use Rattle.model.specs.AncestryLaws.{steady, OfAncestors, past-ind, first-step, descendant-settled}
 use Rattle.model.specs.LineLaws.{line-presents, line-creator}
 
 -- "a revoke's target is an ancestor of kind grant, and P is on the target's line"
@@ -250,7 +250,7 @@ module _ (s : List Event) where
 
   -- the ancestors of a sound event are sound
   pub sound-ancestor : (i a : Id) → sound (view s) i ≡ true → ancestor (view s) i a ≡ true → sound (view s) a ≡ true
-  sound-ancestor i a t u = settled-ind s Passes step i (first-settled s i a u) t u
+  sound-ancestor i a t u = settled-ind s Passes step i (descendant-settled s i a u) t u
     where
       Passes : Id → Type 0
       Passes j = sound (view s) j ≡ true → ancestor (view s) j a ≡ true → sound (view s) a ≡ true

@@ -45,15 +45,15 @@ lineIn v zero i = []
 lineIn v (suc k) i =
     maybe [] (λ e. cond (ancestor v i (e .presented)) (e .presented ∷ lineIn v k (e .presented)) []) (v .find i)
 
--- document 01's term: the line, as ids. No rule asks for the line of an event that is not sound.
+-- document 01's term line, as ids. No rule asks for the line of an event that is not sound: it ends where no ancestor is presented.
 unfoldable pub line : View → Id → List Id
 line v i = maybe [] (λ h. lineIn v h i) (height v i)
 
--- "Any other settled event is sound when: its parents are sound"; `sound` says which ids are
+-- "Any other settled event is sound when", 1: "its parents are sound"; `sound` says which ids are
 unfoldable pub parentsSound : (Id → Bool) → Event → Bool
 parentsSound sound e = allOf sound (e .parents)
 
--- "the presented id is that of an ancestor P, a grant or the creator": what P gives
+-- 2: "the presented id is that of an ancestor P, a grant or the creator": what P gives
 unfoldable pub presentedGrant : View → Event → Option Grant
 presentedGrant v e = cond (ancestor v (e .ident) (e .presented)) (maybe none grantOf (v .find (e .presented))) none
 
@@ -61,7 +61,7 @@ presentedGrant v e = cond (ancestor v (e .ident) (e .presented)) (maybe none gra
 unfoldable pub toAuthor : Event → Grant → Bool
 toAuthor e g = eqb (g .subject) (e .author)
 
--- "P has right 2 for a grant, 4 for a revoke, 1 for join and unplug"
+-- 3: "P has right 2 for a grant, 4 for a revoke, 1 for join and unplug"
 abbrev pub rightFor : Body → ℕ
 rightFor create = 0
 rightFor (grant f) = 2
@@ -72,7 +72,7 @@ rightFor (unplug a) = 1
 unfoldable pub hasRight : Event → Grant → Bool
 hasRight e g = has (g .rights) (rightFor (e .body))
 
--- "a grant's rights lie within P's"
+-- 4: "a grant's rights lie within P's"
 unfoldable pub coversBody : Grant → Body → Bool
 coversBody g create = true
 coversBody g (grant f) = covers g f
@@ -80,7 +80,7 @@ coversBody g revoke = true
 coversBody g (join c) = true
 coversBody g (unplug a) = true
 
--- "a revoke's target is an ancestor of kind grant, and P is on the target's line"
+-- 5: "a revoke's target is an ancestor of kind grant, and P is on the target's line"
 unfoldable pub targetSuits : View → Event → Bool
 targetSuits v e =
     not (isRevoke e)
@@ -88,11 +88,11 @@ targetSuits v e =
     && maybe false isGrant (v .find (e .target))
     && memberOf (e .presented) (line v (e .target)))
 
--- the three conditions on what P gives
+-- 2 to 4, of what P gives
 unfoldable pub permits : Event → Grant → Bool
 permits e g = toAuthor e g && hasRight e g && coversBody g (e .body)
 
--- the five conditions, from the parents' soundness
+-- all five, from the parents' soundness
 unfoldable pub soundFrom : View → (Id → Bool) → Event → Bool
 soundFrom v sound e =
     isCreate e || (parentsSound sound e && maybe false (permits e) (presentedGrant v e) && targetSuits v e)
@@ -101,7 +101,7 @@ unfoldable pub soundIn : View → ℕ → Id → Bool
 soundIn v zero i = false
 soundIn v (suc k) i = maybe false (soundFrom v (λ p. soundIn v k p)) (v .find i)
 
--- document 01's term: sound. The creator is; a waiting event is not.
+-- document 01's term sound. The creator is; a waiting event is not.
 unfoldable pub sound : View → Id → Bool
 sound v i = maybe false (λ h. soundIn v (suc h) i) (height v i)
 
@@ -115,7 +115,7 @@ unfoldable pub effectiveIn : View → ℕ → Id → Bool
 effectiveIn v zero i = false
 effectiveIn v (suc k) i = sound v i && not (anyOf (λ r. strikes v r i && effectiveIn v k (r .ident)) (v .byId))
 
--- document 01's terms: effective, and void
+-- document 01's terms effective and void
 unfoldable pub effective : View → Id → Bool
 effective v i = effectiveIn v (suc (length (line v i))) i
 
