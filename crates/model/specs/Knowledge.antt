@@ -32,13 +32,13 @@ module _ (s t : List Event) (c : DistinctIds t) (h : Within s t) where
   found-kept : (i : Id) (e : Event) → findIn s i ≡ some e → findIn t i ≡ some e
   found-kept i e m = let w = find→ s i e m in ap (findIn t) (sym (w .1)) ∙ find← t c e (h e (w .0))
 
-  pub height-kept : (i : Id) (a : ℕ) → height (view s) i ≡ some a → height (view t) i ≡ some a
-  height-kept i a q = settled-ind s Kept step i (settled← (view s) i a q) a q
+  height-kept : (i : Id) (a : ℕ) → height (view s) i ≡ some a → height (view t) i ≡ some a
+  height-kept i a q = settled-ind s Stays step i (settled← (view s) i a q) a q
     where
-      Kept : Id → Type 0
-      Kept j = (b : ℕ) → height (view s) j ≡ some b → height (view t) j ≡ some b
+      Stays : Id → Type 0
+      Stays j = (b : ℕ) → height (view s) j ≡ some b → height (view t) j ≡ some b
 
-      step : (j : Id) (e : Event) → findIn s j ≡ some e → settled (view s) j ≡ true → OfParents Kept e → Kept j
+      step : (j : Id) (e : Event) → findIn s j ≡ some e → settled (view s) j ≡ true → OfParents Stays e → Stays j
       step j e m st up b r = byBool (isCreate e) creator other
         where
           creator : isCreate e ≡ true → height (view t) j ≡ some b
@@ -53,16 +53,16 @@ module _ (s t : List Event) (c : DistinctIds t) (h : Within s t) where
                 attained = (w .0, w .1, w .2, up f (w .0) (w .1) (w .2) (w .3), w .4);
               })
 
-  pub settled-kept : (i : Id) → settled (view s) i ≡ true → settled (view t) i ≡ true
+  settled-kept : (i : Id) → settled (view s) i ≡ true → settled (view t) i ≡ true
   settled-kept i y = let w = settled→ (view s) i y in settled← (view t) i (w .0) (height-kept i (w .0) (w .1))
 
-  pub ancestor-kept : (i a : Id) → settled (view s) i ≡ true → ancestor (view t) i a ≡ ancestor (view s) i a
-  ancestor-kept i a = settled-ind s Kept step i
+  ancestor-kept : (i a : Id) → settled (view s) i ≡ true → ancestor (view t) i a ≡ ancestor (view s) i a
+  ancestor-kept i a = settled-ind s Stays step i
     where
-      Kept : Id → Type 0
-      Kept j = ancestor (view t) j a ≡ ancestor (view s) j a
+      Stays : Id → Type 0
+      Stays j = ancestor (view t) j a ≡ ancestor (view s) j a
 
-      step : (j : Id) (e : Event) → findIn s j ≡ some e → settled (view s) j ≡ true → OfParents Kept e → Kept j
+      step : (j : Id) (e : Event) → findIn s j ≡ some e → settled (view s) j ≡ true → OfParents Stays e → Stays j
       step j e m st up =
           byBool (isCreate e)
           (λ y. ancestor-creator t j a e (found-kept j e m) y ∙ sym (ancestor-creator s j a e m y))
@@ -71,13 +71,13 @@ module _ (s t : List Event) (c : DistinctIds t) (h : Within s t) where
           ∙ any-cong _ _ (e .parents) (λ p n. ap (λ (x : Bool). sameBytes p a || x) (up f p n))
           ∙ sym (ancestor-law s j a e m st f))
 
-  pub line-kept : (i : Id) → settled (view s) i ≡ true → line (view t) i ≡ line (view s) i
-  line-kept = past-ind s Kept step
+  line-kept : (i : Id) → settled (view s) i ≡ true → line (view t) i ≡ line (view s) i
+  line-kept = past-ind s Stays step
     where
-      Kept : Id → Type 0
-      Kept j = line (view t) j ≡ line (view s) j
+      Stays : Id → Type 0
+      Stays j = line (view t) j ≡ line (view s) j
 
-      step : (j : Id) (e : Event) → findIn s j ≡ some e → settled (view s) j ≡ true → OfAncestors s Kept j → Kept j
+      step : (j : Id) (e : Event) → findIn s j ≡ some e → settled (view s) j ≡ true → OfAncestors s Stays j → Stays j
       step j e m st past =
           let same = ancestor-kept j (e .presented) st in
           let m′ = found-kept j e m in
@@ -112,18 +112,36 @@ module _ (s t : List Event) (c : DistinctIds t) (h : Within s t) where
   unfolding soundFrom
   from-kept a e st = rw (given-kept e st, target-kept e st)
 
-  pub sound-kept : (i : Id) → settled (view s) i ≡ true → sound (view t) i ≡ sound (view s) i
-  sound-kept = settled-ind s Kept step
+  sound-kept : (i : Id) → settled (view s) i ≡ true → sound (view t) i ≡ sound (view s) i
+  sound-kept = settled-ind s Stays step
     where
-      Kept : Id → Type 0
-      Kept j = sound (view t) j ≡ sound (view s) j
+      Stays : Id → Type 0
+      Stays j = sound (view t) j ≡ sound (view s) j
 
-      step : (j : Id) (e : Event) → findIn s j ≡ some e → settled (view s) j ≡ true → OfParents Kept e → Kept j
+      step : (j : Id) (e : Event) → findIn s j ≡ some e → settled (view s) j ≡ true → OfParents Stays e → Stays j
       step j e m st up =
           sound-law t j e (found-kept j e m) (settled-kept j st)
           ∙ from-kept (sound (view t)) e (ap (settled (view s)) (find→ s j e m .1) ∙ st)
           ∙ from-cong (view s) (sound (view t)) (sound (view s)) e (λ f p n. up f p n)
           ∙ sym (sound-law s j e m st)
+
+-- what a larger set keeps of the event with the id i
+pub record Kept (s t : List Event) (i : Id) : Type 0 where
+  pub same-height : height (view t) i ≡ height (view s) i
+  pub same-ancestors : (a : Id) → ancestor (view t) i a ≡ ancestor (view s) i a
+  pub same-line : line (view t) i ≡ line (view s) i
+  pub same-soundness : sound (view t) i ≡ sound (view s) i
+
+-- an event settled in a set has the same height, ancestors, line and soundness in every larger set without shared ids
+pub knowledge-kept : (s t : List Event) → DistinctIds t → Within s t → (i : Id) → settled (view s) i ≡ true → Kept s t i
+knowledge-kept s t c h i y =
+    let w = settled→ (view s) i y in
+    record {
+      same-height = height-kept s t c h i (w .0) (w .1) ∙ sym (w .1);
+      same-ancestors = λ a. ancestor-kept s t c h i a y;
+      same-line = line-kept s t c h i y;
+      same-soundness = sound-kept s t c h i y;
+    }
 
 -- every grant on an effective event's line is effective
 pub line-effective : (s : List Event) → DistinctIds s → (i g : Id) → effective (view s) i ≡ true
