@@ -1,12 +1,12 @@
 -- Cutting a list into pieces of w elements: events of 192 bytes, ids of 32. Specifications speak of pieces, never of offsets.
-use mathlib.Core.Path.{_≡_, refl, ap, _∙_}
-use mathlib.Core.List.{List, [], _∷_, _++_, flatten}
+use mathlib.Core.Path.{_≡_, refl, sym, ap, _∙_}
+use mathlib.Core.List.{List, [], _∷_, _++_, flatten, append-assoc, List·Memᴰ, List·Memᴰ·head, List·Memᴰ·tail}
 use Prim.Native.Nat.{ℕ, zero, suc, _+_, _*_, _-_, _<_, _≤_}
 use native.Mathlib.Nat.{suc-mul, zero-mul, add-comm, not-suc-le-zero, le-of-suc-le-suc}
 use native.Mathlib.Numerals.{add-one}
 use native.Mathlib.Omega.{arith}
-use lib.ListN.{length, getD, take, drop, drop-of-length-le, length-drop}
-use lib.Seq.{drop-cons, drop-drop, take-add, take-append-le, drop-append-le}
+use lib.ListN.{length, getD, take, drop, drop-of-length-le, length-append, length-drop}
+use lib.Seq.{drop-cons, drop-drop, take-add, take-append-le, drop-append-le, take-at, drop-at}
 
 module _ {A : Type 0} where
   -- the first n pieces of w elements
@@ -62,3 +62,24 @@ module _ {A : Type 0} where
       let first : take w s ≡ take w t = cc in
       let rest : chunks w (drop w s) n ≡ chunks w (drop w t) n = cc in
       rw (suc-mul n w, add-comm (n * w) w, take-add w (n * w) s, take-add w (n * w) t, first, chunks-determine w (drop w s) (drop w t) n rest)
+
+  -- pieces of w elements, one after another
+  abbrev pub AllOfLength : ℕ → List (List A) → Type 0
+  AllOfLength w l = (x : List A) → List·Memᴰ x l → length x ≡ w
+
+  pub length-flatten : (w : ℕ) (l : List (List A)) → AllOfLength w l → length (flatten l) ≡ length l * w
+  unfolding flatten
+  length-flatten w [] h = sym (zero-mul w)
+  length-flatten w (x ∷ xs) h =
+      let first = h x (List·Memᴰ·head refl) in
+      let rest = length-flatten w xs (λ y m. h y (List·Memᴰ·tail m)) in
+      length-append x (flatten xs) ∙ rw (first, rest, suc-mul, add-comm w (length xs * w))
+
+  -- are cut into the same pieces
+  pub chunks-flatten : (w : ℕ) (l : List (List A)) (rest : List A) → AllOfLength w l → chunks w (flatten l ++ rest) (length l) ≡ l
+  unfolding flatten chunks
+  chunks-flatten w [] rest h = refl
+  chunks-flatten w (x ∷ xs) rest h =
+      let first = h x (List·Memᴰ·head refl) in
+      rw (append-assoc x (flatten xs) rest, take-at x (flatten xs ++ rest) w first, drop-at x (flatten xs ++ rest) w first)
+      (ap (λ (l : List (List A)). x ∷ l) (chunks-flatten w xs rest (λ y m. h y (List·Memᴰ·tail m))))
