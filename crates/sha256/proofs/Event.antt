@@ -4,13 +4,13 @@ use mathlib.Core.Path.{_≡_, refl, sym, ap, _∙_}
 use mathlib.Core.List.{List, []}
 use Prim.Native.Nat.{ℕ, _*_, _%_, _^_}
 use lib.ListN.{length, take, drop}
-use Rattle.sha256.specs.Sha256.{be32, be64, padded, H0, compress, hashBlocks, hashAll, digestBytes, sha256}
+use Rattle.sha256.specs.Sha256.{wordBytes, lengthBytes, padded, H0, compress, hashBlocks, hashAll, digestBytes, sha256}
 use Rattle.sha256.specs.declared.State.{State}
 use Rattle.sha256.proofs.Blocks.{one-block}
 use Rattle.sha256.proofs.Padding.{whole}
 
 padding-length : length (padded [] 1536) ≡ 64
-unfolding padded be64 be32
+unfolding padded lengthBytes wordBytes
 padding-length = refl
 
 -- three blocks, and p, the block of padding

@@ -7,7 +7,7 @@ use native.Mathlib.Omega.{arith}
 use lib.ListN.{length, take, drop, set, replicate, length-append, length-drop, length-replicate}
 use lib.ListN.{replicate-append-replicate}
 use lib.Seq.{length-take-le, take-all, take-length, take-at, drop-at, drop-append-le, set-at}
-use Rattle.sha256.specs.Sha256.{be32, be64, zeros, padded, compress, hashBlocks, hashAll}
+use Rattle.sha256.specs.Sha256.{wordBytes, lengthBytes, zeros, padded, compress, hashBlocks, hashAll}
 use Rattle.sha256.specs.declared.State.{State}
 use Rattle.sha256.proofs.Blocks.{blocks-append, blocks-add, one-block, two-blocks}
 
@@ -34,15 +34,15 @@ module _ (r l : List ℕ) (n : ℕ) (hn : n ≡ length r)
   module _ (s : State) (bits : ℕ) (u v : List ℕ) where
     -- with the two words of the length, which stand at `at`, it is the padded rest
     pads : (at i j : ℕ) → at ≤ 128 → at ≡ length r + suc (zeros (length r))
-        → take i u ≡ take at (set l n 0x80) ++ be32 (bits / 2 ^ 32) → take j v ≡ take i u ++ be32 (bits % 2 ^ 32)
+        → take i u ≡ take at (set l n 0x80) ++ wordBytes (bits / 2 ^ 32) → take j v ≡ take i u ++ wordBytes (bits % 2 ^ 32)
         → take j v ≡ padded r bits
-    unfolding padded be64
+    unfolding padded lengthBytes
     pads at i j h e p q =
         let b = before-length (zeros (length r)) at e h in
-        cc (append-assoc (r ++ 0x80 ∷ replicate (zeros (length r)) 0) (be32 (bits / 2 ^ 32)) (be32 (bits % 2 ^ 32)))
+        cc (append-assoc (r ++ 0x80 ∷ replicate (zeros (length r)) 0) (wordBytes (bits / 2 ^ 32)) (wordBytes (bits % 2 ^ 32)))
 
     pub ends-one : {o : State} → length v ≡ 128 → n < 56
-        → take 60 u ≡ take 56 (set l n 0x80) ++ be32 (bits / 2 ^ 32) → take 64 v ≡ take 60 u ++ be32 (bits % 2 ^ 32)
+        → take 60 u ≡ take 56 (set l n 0x80) ++ wordBytes (bits / 2 ^ 32) → take 64 v ≡ take 60 u ++ wordBytes (bits % 2 ^ 32)
         → o ≡ compress s (take 64 v) → o ≡ hashAll s (padded r bits)
     ends-one long h p q f =
         let e : take 64 v ≡ padded r bits = pads 56 60 64 (omega arith) (omega arith) p q in
@@ -50,7 +50,7 @@ module _ (r l : List ℕ) (n : ℕ) (hn : n ≡ length r)
         ∙ sym (one-block s (padded r bits) (ap length (sym e) ∙ length-take-le 64 v (omega arith)))
 
     pub ends-two : {o₁ o₂ : State} → length v ≡ 128 → 56 ≤ n → n < 64
-        → take 124 u ≡ take 120 (set l n 0x80) ++ be32 (bits / 2 ^ 32) → take 128 v ≡ take 124 u ++ be32 (bits % 2 ^ 32)
+        → take 124 u ≡ take 120 (set l n 0x80) ++ wordBytes (bits / 2 ^ 32) → take 128 v ≡ take 124 u ++ wordBytes (bits % 2 ^ 32)
         → o₁ ≡ compress s (take 64 v) → o₂ ≡ compress o₁ (take 64 (drop 64 v)) → o₂ ≡ hashAll s (padded r bits)
     ends-two long h k p q f g =
         let e : take 128 v ≡ padded r bits = pads 120 124 128 (omega arith) (omega arith) p q in
@@ -82,4 +82,4 @@ whole z m bits =
     let n : length r ≡ length m - q * 64 = length-drop (q * 64) m in
     let t : take (length m - q * 64) r ≡ r = take-all (length m - q * 64) r (omega arith) in
     let k : length r % 64 ≡ length m % 64 = omega arith in
-    rw (t, k) (simp append-assoc (rest z m (0x80 ∷ (replicate (zeros (length m)) 0 ++ be64 bits)) q (omega arith)))
+    rw (t, k) (simp append-assoc (rest z m (0x80 ∷ (replicate (zeros (length m)) 0 ++ lengthBytes bits)) q (omega arith)))

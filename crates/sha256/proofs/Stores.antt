@@ -7,7 +7,7 @@ use native.Mathlib.Numerals.{add-one}
 use native.Mathlib.Omega.{arith}
 use lib.ListN.{length, take, set, length-set}
 use lib.Seq.{take-suc-set, take-all}
-use Rattle.sha256.specs.Sha256.{be32, digestBytes}
+use Rattle.sha256.specs.Sha256.{wordBytes, digestBytes}
 use Rattle.sha256.specs.declared.State.{State}
 
 one-more : (l : List ℕ) (i u a : ℕ) → u ≡ i + 1 → i < length l → take u (set l i a) ≡ take i l ++ (a ∷ [])
@@ -30,14 +30,14 @@ four-bytes l at a b c d h =
 
 -- the eight words of a hash value
 pub eight-words : (s : State) (o₁ o₂ o₃ o₄ o₅ o₆ o₇ o₈ : List ℕ) → length o₈ ≡ 32
-    → take 4 o₁ ≡ be32 (s .a)
-    → take 8 o₂ ≡ take 4 o₁ ++ be32 (s .b)
-    → take 12 o₃ ≡ take 8 o₂ ++ be32 (s .c)
-    → take 16 o₄ ≡ take 12 o₃ ++ be32 (s .d)
-    → take 20 o₅ ≡ take 16 o₄ ++ be32 (s .e)
-    → take 24 o₆ ≡ take 20 o₅ ++ be32 (s .f)
-    → take 28 o₇ ≡ take 24 o₆ ++ be32 (s .g)
-    → take 32 o₈ ≡ take 28 o₇ ++ be32 (s .h)
+    → take 4 o₁ ≡ wordBytes (s .a)
+    → take 8 o₂ ≡ take 4 o₁ ++ wordBytes (s .b)
+    → take 12 o₃ ≡ take 8 o₂ ++ wordBytes (s .c)
+    → take 16 o₄ ≡ take 12 o₃ ++ wordBytes (s .d)
+    → take 20 o₅ ≡ take 16 o₄ ++ wordBytes (s .e)
+    → take 24 o₆ ≡ take 20 o₅ ++ wordBytes (s .f)
+    → take 28 o₇ ≡ take 24 o₆ ++ wordBytes (s .g)
+    → take 32 o₈ ≡ take 28 o₇ ++ wordBytes (s .h)
     → o₈ ≡ digestBytes s
 unfolding digestBytes
 eight-words s o₁ o₂ o₃ o₄ o₅ o₆ o₇ o₈ n e₁ e₂ e₃ e₄ e₅ e₆ e₇ e₈ =

@@ -10,7 +10,7 @@ ghost use Prim.Native.Nat.{_+_, _*_, _/_, _^_, _<_, _≤_};
 ghost use lib.ListN.{length, getD, take, set};
 ghost use Rattle.sha256.specs.Words.{Ch, Maj, Σ0, Σ1, σ0, σ1};
 ghost use Rattle.sha256.specs.Constants.{K};
-ghost use Rattle.sha256.specs.Sha256.{be32, padded, wordAt, words, H0, nextWord, extended, oneRound, rounds};
+ghost use Rattle.sha256.specs.Sha256.{wordBytes, padded, wordAt, words, H0, nextWord, extended, oneRound, rounds};
 ghost use Rattle.sha256.specs.Sha256.{addStates, compress, hashBlocks, hashAll, digestBytes, sha256};
 use constants::EVENT_PADDING;
 use constants::ROUND_CONSTANTS;
@@ -279,7 +279,7 @@ fn store_state(s: State, out: &mut [u8])
 // The four bytes of x, the most significant first, from index at.
 fn store_word(out: &mut [u8], at: usize, x: u32)
     requires { ⌜ at + 4 ≤ length (now out) ⌝ }
-    ensures { λ _. ⌜ take (at + 4) (now (out .exit)) ≡ take at (now (out .entry)) ++ be32 x ⌝ }
+    ensures { λ _. ⌜ take (at + 4) (now (out .exit)) ≡ take at (now (out .entry)) ++ wordBytes x ⌝ }
 {
     out[at] = (x >> 24) as u8;
     out[at + 1] = ((x >> 16) % 256) as u8;

@@ -2,7 +2,7 @@
 -- Assumes nothing.
 use mathlib.Core.Path.{refl}
 use borrow.Author.Needs.{needs}
-use Rattle.sha256.specs.Sha256.{be32, be64, padded}
+use Rattle.sha256.specs.Sha256.{wordBytes, lengthBytes, padded}
 use Rattle.sha256.proofs.Event.{event}
 use Rattle.sha256.proofs.event_id.Statement.{statement}
 use Rattle.sha256.proofs.event_id.Tie as tie
@@ -71,7 +71,7 @@ returns-2 c =
     let branch = c0 .before in
     let m = branch .before .before .args .event .now in
     event m _ (branch .if1 .left) (c0 .initial .ensures) (c1 .compress .ensures) (c2 .compress2 .ensures)
-    (c3 .compress3 .ensures) (c4 .compress4 .ensures) (c .to-bytes .ensures) (unfold be32 be64 padded in refl)
+    (c3 .compress3 .ensures) (c4 .compress4 .ensures) (c .to-bytes .ensures) (unfold wordBytes lengthBytes padded in refl)
 
 pub event-id-spec : {M : Type 1} → statement M
 event-id-spec =

@@ -3,7 +3,7 @@
 use native.Mathlib.Omega.{arith}
 use lib.ListN.{length-set}
 use borrow.Author.Needs.{needs}
-use Rattle.sha256.specs.Sha256.{be32}
+use Rattle.sha256.specs.Sha256.{wordBytes}
 use Rattle.sha256.proofs.Stores.{four-bytes}
 use Rattle.sha256.proofs.store_word.Statement.{statement}
 use Rattle.sha256.proofs.store_word.Tie as tie
@@ -45,7 +45,7 @@ same-length : tie.Need-same-length
 same-length c = search needs
 
 returns : tie.Need-returns
-unfolding be32
+unfolding wordBytes
 returns c = four-bytes (c .args .out .now) (c .args .at) _ _ _ _ (c .pre)
 
 pub store-word-spec : {M : Type 1} → statement M
