@@ -2,10 +2,10 @@
 use Prim.Native.Nat.{ℕ, zero, suc, _+_, _<_}
 use native.Mathlib.Nat.{not-suc-le-zero, le-of-suc-le-suc}
 use native.Mathlib.Omega.{arith}
-use mathlib.Core.Path.{_≡_, refl, ap₂}
+use mathlib.Core.Path.{_≡_, refl, ap, ap₂}
 use mathlib.Core.Logic.{⊎-elim}
 use mathlib.Core.Bool.{Bool, true, false, not, _&&_, _||_, cond}
-use mathlib.Core.List.{List, [], _∷_, List·Memᴰ, List·Memᴰ·head, List·Memᴰ·tail, List·Memᴰ·cases-cons, List·Memᴰ·not-nil, Memᴰ·cast}
+use mathlib.Core.List.{List, [], _∷_, _++_, map, List·Memᴰ, List·Memᴰ·head, List·Memᴰ·tail, List·Memᴰ·cases-cons, List·Memᴰ·not-nil, Memᴰ·cast}
 use lib.ListN.{length, getD}
 use Rattle.lists.specs.Cases.{byBool, clash, and→, and←, or→, or←l, or←r}
 use Rattle.lists.specs.Bytes.{Bytes, sameBytes, same→, same-refl}
@@ -91,6 +91,26 @@ module _ {A : Type 0} where
       (λ t. rw t (⊎-elim (λ q. List·Memᴰ·head q) (λ n. List·Memᴰ·tail (keep← p xs y n e)) (List·Memᴰ·cases-cons m)))
       (λ f. rw f (⊎-elim (λ (q : y ≡ x). clash (p x) (rw (← q) e) f) (λ n. keep← p xs y n e) (List·Memᴰ·cases-cons m)))
 
+  pub keep-cong : (p q : A → Bool) (l : List A) → ((y : A) → p y ≡ q y) → keep p l ≡ keep q l
+  keep-cong p q [] h = refl
+  keep-cong p q (x ∷ xs) h = rw (h x, keep-cong p q xs h)
+
+  -- those that pass two tests, one after the other
+  pub keep-keep : (p q : A → Bool) (l : List A) → keep p (keep q l) ≡ keep (λ x. q x && p x) l
+  keep-keep p q [] = refl
+  keep-keep p q (x ∷ xs) =
+      byBool (q x)
+      (λ t. rw t (byBool (p x) (λ u. rw u (ap (λ (r : List A). x ∷ r) (keep-keep p q xs))) (λ g. rw g (keep-keep p q xs))))
+      (λ f. rw f (keep-keep p q xs))
+
+  pub keep-all : (p : A → Bool) (l : List A) → ((y : A) → List·Memᴰ y l → p y ≡ true) → keep p l ≡ l
+  keep-all p [] h = refl
+  keep-all p (x ∷ xs) h = rw (h x (List·Memᴰ·head refl)) (ap (λ (r : List A). x ∷ r) (keep-all p xs (λ y m. h y (List·Memᴰ·tail m))))
+
+  pub keep-append : (p : A → Bool) (l m : List A) → keep p (l ++ m) ≡ keep p l ++ keep p m
+  keep-append p [] m = refl
+  keep-append p (x ∷ xs) m = byBool (p x) (λ t. rw t (ap (λ (r : List A). x ∷ r) (keep-append p xs m))) (λ f. rw f (keep-append p xs m))
+
 -- those that pass and those that do not are all
 pub keep-split : {A : Type 0} (p : A → Bool) (l : List A) → length (keep (λ x. not (p x)) l) + length (keep p l) ≡ length l
 keep-split p [] = omega arith
@@ -101,3 +121,7 @@ member→ i l e = let h = any→ (sameBytes i) l e in Memᴰ·cast (same→ i (h
 
 pub member← : (i : Bytes) (l : List Bytes) → List·Memᴰ i l → memberOf i l ≡ true
 member← i l m = any← (sameBytes i) l i m (same-refl i)
+
+pub any-map : {A B : Type 0} (p : B → Bool) (f : A → B) (l : List A) → anyOf p (map f l) ≡ anyOf (λ x. p (f x)) l
+any-map p f [] = refl
+any-map p f (x ∷ xs) = ap (λ (b : Bool). p (f x) || b) (any-map p f xs)

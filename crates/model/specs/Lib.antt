@@ -17,4 +17,5 @@ pub mod OrderLaws
 pub mod MapLaws
 pub mod Agreement
 pub mod Knowledge
+pub mod StoreLaws
 pub mod Packing
