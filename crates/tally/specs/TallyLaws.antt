@@ -1,0 +1,115 @@
+-- The figures that a bundle adds are its events' answers, counted in the lent tally one by one.
+use Prim.Native.Nat.{ℕ, _+_, _≤_}
+use native.Mathlib.Omega.{arith}
+use mathlib.Core.Path.{_≡_, refl, sym, ap, _∙_}
+use mathlib.Core.Bool.{true, false}
+use mathlib.Core.Option.{none}
+use mathlib.Core.List.{List, [], _∷_}
+use lib.Dec.{ltb}
+use borrow.Author.Tests.{ltb-true, ltb-false, lt-ltb, le-ltb}
+use Rattle.lists.specs.Cases.{byBool, byOption}
+use Rattle.lists.specs.Bytes.{Bytes}
+use Rattle.event.specs.Answers.{Answer, value, refused, firstFailed}
+use Rattle.model.specs.Bundle.{eventsIn}
+use Rattle.takes.specs.declared.Tally.{Tally}
+use Rattle.takes.specs.Takes.{
+  Placed,
+  stored,
+  repeat,
+  takeOf,
+  raised,
+  counted,
+  Run,
+  step,
+  runOf,
+  noFigures,
+  bundleTests,
+  bundleOf,
+}
+use Rattle.takes.specs.TakeLaws.{freshRun}
+use Rattle.tally.specs.Tallies.{raisedBy, addFigures, tallied}
+
+low : (x k : ℕ) → x + k ≤ 4294967295 → raisedBy x k ≡ x + k
+low x k h =
+    byBool (ltb (x + k) 4294967295) (λ t. rw t) (λ f. let g = ltb-false (x + k) 4294967295 f in rw f (omega arith))
+
+full : (x k : ℕ) → 4294967295 ≤ x + k → raisedBy x k ≡ 4294967295
+full x k h = rw (le-ltb (x + k) 4294967295 h)
+
+-- k answers and then one are k + 1 answers
+raised-more : (x k : ℕ) → raised (raisedBy x k) ≡ raisedBy x (raised k)
+raised-more x k = byBool (ltb (x + k) 4294967295) below at-end
+  where
+    below : ltb (x + k) 4294967295 ≡ true → raised (raisedBy x k) ≡ raisedBy x (raised k)
+    below t =
+        let h = ltb-true (x + k) 4294967295 t in
+        let more = low x (k + 1) (omega arith) in
+        rw (low x k (omega arith), t, lt-ltb k 4294967295 (omega arith)) (omega arith)
+
+    at-end : ltb (x + k) 4294967295 ≡ false → raised (raisedBy x k) ≡ raisedBy x (raised k)
+    at-end f =
+        let h = ltb-false (x + k) 4294967295 f in
+        ap raised (full x k h) ∙ sym (byBool (ltb k 4294967295) (λ t. rw t (full x (k + 1) (omega arith))) (λ g. rw g (full x k h)))
+
+-- one answer more
+counted-more : (t f : Tally) (a : Answer Placed) → counted (addFigures t f) a ≡ addFigures t (counted f a)
+unfolding counted
+counted-more t f (value stored) = rw (raised-more (t .new) (f .new))
+counted-more t f (value repeat) = rw (raised-more (t .repeats) (f .repeats))
+counted-more t f (refused n) = rw (raised-more (t .refused) (f .refused))
+
+-- a run over a tally that others have counted in
+abbrev pub over : Tally → Run → Run
+over t r = record { figures = addFigures t (r .figures); count = r .count; store = r .store }
+
+step-over : (entry : ℕ → ℕ → ℕ) (t : Tally) (r : Run) (e : Bytes) → step entry (over t r) e ≡ over t (step entry r e)
+unfolding step
+step-over entry t r e = rw (counted-more t (r .figures) (takeOf entry (r .store) (r .count) e .answer))
+
+pub run-over : (entry : ℕ → ℕ → ℕ) (t : Tally) (r : Run) (es : List Bytes) → runOf entry (over t r) es ≡ over t (runOf entry r es)
+unfolding runOf
+run-over entry t r [] = refl
+run-over entry t r (e ∷ es) = rw (step-over entry t r e) (run-over entry t (step entry r e) es)
+
+-- what every tally of three u32 satisfies
+pub record Fits (t : Tally) : Type 0 where
+  pub new-fits : t .new ≤ 4294967295
+  pub repeats-fit : t .repeats ≤ 4294967295
+  pub refused-fit : t .refused ≤ 4294967295
+
+-- nothing counted yet
+raised-none : (x : ℕ) → x ≤ 4294967295 → raisedBy x 0 ≡ x
+raised-none x h = low x 0 (omega arith) ∙ omega arith
+
+over-none : (t : Tally) → Fits t → addFigures t noFigures ≡ t
+over-none t h =
+    rw (raised-none (t .new) (h .new-fits), raised-none (t .repeats) (h .repeats-fit), raised-none (t .refused) (h .refused-fit))
+
+-- the run of a bundle's events that counts in the lent tally
+abbrev pub lentRun : Tally → Bytes → ℕ → Run
+lentRun t s n = record { figures = t; count = n; store = s }
+
+-- taking a list of events one by one and counting each answer in a lent tally leaves count and store as without it, and adds the
+-- figures
+pub run-tallied : (entry : ℕ → ℕ → ℕ) (s : Bytes) (n : ℕ) (es : List Bytes) (t : Tally) → Fits t
+    → runOf entry (lentRun t s n) es ≡ over t (runOf entry (freshRun s n) es)
+run-tallied entry s n es t h =
+    ap (λ (u : Tally). runOf entry (lentRun u s n) es) (sym (over-none t h)) ∙ run-over entry t (freshRun s n) es
+
+-- the same of a bundle that is not refused: tally, count and store after it are those of the run that counts in the lent tally
+pub bundle-tallied : (entry : ℕ → ℕ → ℕ) (s : Bytes) (n : ℕ) (b : Bytes) (t f : Tally) → Fits t
+    → bundleOf entry s n b .answer ≡ value f
+    → runOf entry (lentRun t s n) (eventsIn b)
+    ≡ record { figures = tallied t (value f); count = bundleOf entry s n b .count; store = bundleOf entry s n b .store }
+unfolding bundleOf tallied
+bundle-tallied entry s n b t f h p =
+    byOption (firstFailed (bundleTests entry s n b)) passed
+    (λ k q. let z : refused k ≡ value f = rw q at p in let w : _≡_ {A = ℕ} 0 1 = cc in absurd (omega arith))
+  where
+    passed : firstFailed (bundleTests entry s n b) ≡ none
+        → runOf entry (lentRun t s n) (eventsIn b)
+        ≡ record { figures = addFigures t f; count = bundleOf entry s n b .count; store = bundleOf entry s n b .store }
+    passed q =
+        let same : value (runOf entry (freshRun s n) (eventsIn b) .figures) ≡ value f = rw q at p in
+        let figures : runOf entry (freshRun s n) (eventsIn b) .figures ≡ f = cc in
+        rw (q, ← figures) (run-tallied entry s n (eventsIn b) t h)
