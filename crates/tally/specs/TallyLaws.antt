@@ -49,7 +49,9 @@ raised-more x k = byBool (ltb (x + k) 4294967295) below at-end
     at-end : ltb (x + k) 4294967295 ≡ false → raised (raisedBy x k) ≡ raisedBy x (raised k)
     at-end f =
         let h = ltb-false (x + k) 4294967295 f in
-        ap raised (full x k h) ∙ sym (byBool (ltb k 4294967295) (λ t. rw t (full x (k + 1) (omega arith))) (λ g. rw g (full x k h)))
+        let more : raisedBy x (raised k) ≡ 4294967295 =
+        byBool (ltb k 4294967295) (λ t. rw t (full x (k + 1) (omega arith))) (λ g. rw g (full x k h)) in
+        ap raised (full x k h) ∙ sym more
 
 -- one answer more
 counted-more : (t f : Tally) (a : Answer Placed) → counted (addFigures t f) a ≡ addFigures t (counted f a)

@@ -56,7 +56,7 @@ fn raise_by(figure: u32, k: u32) -> u32
 }
 
 // A tally with a bundle's answer: its figures are added, and a refused one leaves the tally.
-pub fn tally_answer(t: Tally, answer: BundleAnswer) -> Tally
+fn tally_answer(t: Tally, answer: BundleAnswer) -> Tally
     ensures { λ r. ⌜ r ≡ tallied t (answerOfBundle answer) ⌝ }
 {
     match answer {
