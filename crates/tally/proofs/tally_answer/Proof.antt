@@ -20,7 +20,13 @@ enum-told c = search needs
 
 returns : tie.Need-returns
 unfolding tallied
-returns c = rw (c .before .before .before .before .answer .given .1) (cc)
+returns c =
+    rw (
+      c .before .before .before .before .answer .given .1,
+      ← c .raise-by3 .ensures,
+      ← c .before .raise-by2 .ensures,
+      ← c .before .before .raise-by .ensures,
+    )
 
 returns-2 : tie.Need-returns-2
 unfolding tallied
