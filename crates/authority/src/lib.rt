@@ -1,0 +1,1 @@
+// Who may do what: the presented grant of each place, lines, soundness.

@@ -1,0 +1,1 @@
+// Working tables: u16 entries, and rows of bits.
