@@ -125,3 +125,9 @@ member← i l m = any← (sameBytes i) l i m (same-refl i)
 pub any-map : {A B : Type 0} (p : B → Bool) (f : A → B) (l : List A) → anyOf p (map f l) ≡ anyOf (λ x. p (f x)) l
 any-map p f [] = refl
 any-map p f (x ∷ xs) = ap (λ (b : Bool). p (f x) || b) (any-map p f xs)
+
+-- the entries of a mapped list
+pub map-at : {A B : Type 0} (f : A → B) (l : List A) (k : ℕ) (a : A) (b : B) → k < length l → getD (map f l) k b ≡ f (getD l k a)
+map-at f [] k a b h = absurd (not-suc-le-zero h)
+map-at f (x ∷ xs) zero a b h = refl
+map-at f (x ∷ xs) (suc k) a b h = map-at f xs k a b (le-of-suc-le-suc h)
