@@ -1,0 +1,271 @@
+-- Bits of words and of rows.
+use Prim.Native.Nat.{ℕ, zero, suc, _+_, _-_, _*_, _/_, _%_, _^_, _<_, _≤_}
+use native.Mathlib.Omega.{arith}
+use native.Mathlib.Nat.{pow-suc, div-eq-of-lt, one-mul, add-zero, zero-div}
+use mathlib.Core.Path.{_≡_, refl, sym, ap, _∙_}
+use mathlib.Core.Bool.{Bool, true, false, _&&_, _||_, not, cond, and-true, and-false, or-false}
+use mathlib.Core.List.{List, [], _∷_}
+use lib.Bits.{bitAnd, bitOr, or-shr, or-mod, and-shr, and-mod, and-mask}
+use lib.Dec.{eqb, ltb}
+use lib.ListN.{length, getD, set, length-set, List·getD-eq-default}
+use lib.Pow.{pow-lt, pow-add, shl-shr, shl-exact}
+use lib.Seq.{getD-set-same, getD-set-other}
+use borrow.Author.Tests.{eqb-true, eqb-false, eq-eqb, ne-eqb, ltb-true, ltb-false, lt-ltb, le-ltb}
+use Rattle.lists.specs.Cases.{byBool, bool-eq, and→}
+use Rattle.tables.specs.Bits.{bitAt}
+
+-- ── bits of one word ────────────────────────────────────────────────────────────────────────────────────────────────────
+
+abbrev pub bit : ℕ → ℕ → Bool
+bit x b = eqb (x / 2 ^ b % 2) 1
+
+-- a law of two digits is computed at 0 and 1
+digits : (f g : ℕ → ℕ → Bool) → f 0 0 ≡ g 0 0 → f 0 1 ≡ g 0 1 → f 1 0 ≡ g 1 0 → f 1 1 ≡ g 1 1 → (a b : ℕ) → a < 2 → b < 2 → f a b ≡ g a b
+digits f g p q r s a b h l =
+    byBool (eqb a 0)
+    (λ t. let e : a ≡ 0 = eqb-true a 0 t in
+    byBool (eqb b 0)
+    (λ u. let d : b ≡ 0 = eqb-true b 0 u in rw (e, d) p)
+    (λ v. let n : b ≡ 0 → ⊥ = eqb-false b 0 v in let d : b ≡ 1 = omega arith in rw (e, d) q))
+    (λ w. let m : a ≡ 0 → ⊥ = eqb-false a 0 w in let e : a ≡ 1 = omega arith in
+    byBool (eqb b 0)
+    (λ u. let d : b ≡ 0 = eqb-true b 0 u in rw (e, d) r)
+    (λ v. let n : b ≡ 0 → ⊥ = eqb-false b 0 v in let d : b ≡ 1 = omega arith in rw (e, d) s))
+
+pub or-bit : (x y b : ℕ) → bit (bitOr x y) b ≡ (bit x b || bit y b)
+or-bit x y b =
+    let e : bitOr x y / 2 ^ b % 2 ≡ bitOr (x / 2 ^ b % 2) (y / 2 ^ b % 2) = ap (λ z. z % 2) (or-shr x y b) ∙ or-mod (x / 2 ^ b) (y / 2 ^ b) 1 in
+    rw e (digits (λ a d. eqb (bitOr a d) 1) (λ a d. eqb a 1 || eqb d 1) refl refl refl refl (x / 2 ^ b % 2) (y / 2 ^ b % 2) (omega arith) (omega arith))
+
+pub and-bit : (x y b : ℕ) → bit (bitAnd x y) b ≡ (bit x b && bit y b)
+and-bit x y b =
+    let e : bitAnd x y / 2 ^ b % 2 ≡ bitAnd (x / 2 ^ b % 2) (y / 2 ^ b % 2) = ap (λ z. z % 2) (and-shr x y b) ∙ and-mod (x / 2 ^ b) (y / 2 ^ b) 1 in
+    rw e (digits (λ a d. eqb (bitAnd a d) 1) (λ a d. eqb a 1 && eqb d 1) refl refl refl refl (x / 2 ^ b % 2) (y / 2 ^ b % 2) (omega arith) (omega arith))
+
+pub zero-bit : (b : ℕ) → bit 0 b ≡ false
+zero-bit b = let e : 0 / 2 ^ b ≡ 0 = zero-div (2 ^ b) in rw e
+
+power-own : (j : ℕ) → bit (2 ^ j) j ≡ true
+power-own j = let e : 2 ^ j / 2 ^ j ≡ 1 = ap (λ z. z / 2 ^ j) (sym (one-mul (2 ^ j))) ∙ shl-shr 1 j in rw e
+
+power-above : (d b : ℕ) → bit (2 ^ (suc d + b)) b ≡ false
+power-above d b =
+    let e : 2 ^ (suc d + b) / 2 ^ b ≡ 2 ^ d * 2 = ap (λ z. z / 2 ^ b) (pow-add 2 (suc d) b) ∙ shl-shr (2 ^ suc d) b ∙ pow-suc 2 d in
+    let m : 2 ^ d * 2 % 2 ≡ 0 = omega arith in
+    rw (e, m)
+
+power-below : (j b : ℕ) → j < b → bit (2 ^ j) b ≡ false
+power-below j b h = let e : 2 ^ j / 2 ^ b ≡ 0 = div-eq-of-lt (pow-lt h) in rw e
+
+-- a power of two has one bit
+power-bit : (j b : ℕ) → bit (2 ^ j) b ≡ eqb b j
+power-bit j b =
+    byBool (eqb b j)
+    (λ t. let q : b ≡ j = eqb-true b j t in rw (t, q) (power-own j))
+    (λ f.
+    let ne : b ≡ j → ⊥ = eqb-false b j f in
+    byBool (ltb j b)
+    (λ t. rw f (power-below j b (ltb-true j b t)))
+    (λ g.
+    let l : b ≤ j = ltb-false j b g in
+    let e : j ≡ suc (j - b - 1) + b = omega arith in
+    rw f (ap (λ z. bit (2 ^ z) b) e ∙ power-above (j - b - 1) b)))
+
+pub one-bit : (j b : ℕ) → j < 64 → bit (1 * 2 ^ j % 2 ^ 64) b ≡ eqb b j
+one-bit j b h =
+    let e : 1 * 2 ^ j % 2 ^ 64 ≡ 2 ^ j = shl-exact {a = 1} 1 j 64 (omega arith) (omega arith) ∙ one-mul (2 ^ j) in
+    rw e (power-bit j b)
+
+-- every bit of the greatest word is set
+pub ones-bit : (b : ℕ) → b < 64 → bit 18446744073709551615 b ≡ true
+ones-bit b h =
+    let m : bitAnd (2 ^ b) 18446744073709551615 ≡ 2 ^ b = and-mask (2 ^ b) 64 ∙ ap (λ z. z % 2 ^ 64) (sym (one-mul (2 ^ b)))
+    ∙ shl-exact {a = 1} 1 b 64 (omega arith) (omega arith) ∙ one-mul (2 ^ b) in
+    let own = power-own b in
+    and→ (bit (2 ^ b) b) (bit 18446744073709551615 b) (sym (and-bit (2 ^ b) 18446744073709551615 b) ∙ ap (λ z. bit z b) m ∙ own) .1
+
+-- ── rows ────────────────────────────────────────────────────────────────────────────────────────────────────────────────
+
+-- rows with equal words have equal bits
+pub same-row : (R S : List ℕ) (a c : ℕ) → ((i : ℕ) → i < 4 → getD R (a * 4 + i) 0 ≡ getD S (c * 4 + i) 0) → (b : ℕ) → bitAt R a b ≡ bitAt S c b
+unfolding bitAt
+same-row R S a c h b =
+    byBool (ltb b 256) (λ t. let l : b < 256 = ltb-true b 256 t in rw (t, h (b / 64) (omega arith))) (λ f. rw f)
+
+-- no bit past the last word
+pub bit-outside : (R : List ℕ) (k j : ℕ) → length R ≤ k * 4 + j / 64 → bitAt R k j ≡ false
+unfolding bitAt
+bit-outside R k j h =
+    let e : getD R (k * 4 + j / 64) 0 ≡ 0 = List·getD-eq-default R 0 h in
+    rw (e, zero-bit (j % 64)) (and-false (ltb j 256))
+
+pub bit-high : (R : List ℕ) (k j : ℕ) → 256 ≤ j → bitAt R k j ≡ false
+unfolding bitAt
+bit-high R k j h = rw (le-ltb j 256 h)
+
+pub bit-inside : (R : List ℕ) (k j : ℕ) → j < 256 → bitAt R k j ≡ bit (getD R (k * 4 + j / 64) 0) (j % 64)
+unfolding bitAt
+bit-inside R k j h = rw (lt-ltb j 256 h)
+
+pub rows-empty : (R : List ℕ) → ((i : ℕ) → getD R i 0 ≡ 0) → (k j : ℕ) → bitAt R k j ≡ false
+unfolding bitAt
+rows-empty R h k j = rw (h (k * 4 + j / 64), zero-bit (j % 64)) (and-false (ltb j 256))
+
+pub rows-full : (R : List ℕ) → ((i : ℕ) → i < length R → getD R i 0 ≡ 18446744073709551615)
+    → (k j : ℕ) → k * 4 + 4 ≤ length R → j < 256 → bitAt R k j ≡ true
+unfolding bitAt
+rows-full R h k j l m = rw (lt-ltb j 256 m, h (k * 4 + j / 64) (omega arith)) (ones-bit (j % 64) (omega arith))
+
+-- one bit more
+pub bit-inserted : (R : List ℕ) (k j : ℕ) → k * 4 + 4 ≤ length R → j < 256 → (a b : ℕ)
+    → bitAt (set R (k * 4 + j / 64) (bitOr (getD R (k * 4 + j / 64) 0) (1 * 2 ^ (j % 64) % 2 ^ 64))) a b
+    ≡ (bitAt R a b || (eqb a k && eqb b j))
+unfolding bitAt
+bit-inserted R k j h l a b =
+    let q = k * 4 + j / 64 in
+    let w = bitOr (getD R q 0) (1 * 2 ^ (j % 64) % 2 ^ 64) in
+    byBool (ltb b 256)
+    (λ t.
+    let u : b < 256 = ltb-true b 256 t in
+    byBool (eqb (a * 4 + b / 64) (k * 4 + j / 64))
+    (λ s.
+    let e : a * 4 + b / 64 ≡ k * 4 + j / 64 = eqb-true (a * 4 + b / 64) (k * 4 + j / 64) s in
+    let same : a ≡ k = omega arith in
+    let digit : eqb (b % 64) (j % 64) ≡ eqb b j =
+    bool-eq (eqb (b % 64) (j % 64)) (eqb b j)
+    (λ z. let y : b % 64 ≡ j % 64 = eqb-true (b % 64) (j % 64) z in eq-eqb b j (omega arith))
+    (λ z. let y : b ≡ j = eqb-true b j z in eq-eqb (b % 64) (j % 64) (omega arith)) in
+    rw (t, e, getD-set-same R q w 0 (omega arith), eq-eqb a k same)
+    (or-bit (getD R q 0) (1 * 2 ^ (j % 64) % 2 ^ 64) (b % 64)
+    ∙ ap (λ z. bit (getD R q 0) (b % 64) || z) (one-bit (j % 64) (b % 64) (omega arith) ∙ digit)))
+    (λ f.
+    let ne : a * 4 + b / 64 ≡ k * 4 + j / 64 → ⊥ = eqb-false (a * 4 + b / 64) (k * 4 + j / 64) f in
+    let away : (eqb a k && eqb b j) ≡ false =
+    byBool (eqb a k)
+    (λ z. let y : a ≡ k = eqb-true a k z in rw (z, ne-eqb b j (λ x. ne (rw (y, x)))))
+    (λ z. rw z) in
+    rw (t, getD-set-other R q (a * 4 + b / 64) w 0 ne, away) (sym (or-false (bit (getD R (a * 4 + b / 64) 0) (b % 64))))))
+    (λ f.
+    let g : 256 ≤ b = ltb-false b 256 f in
+    rw (f, ne-eqb b j (λ z. omega arith), and-false (eqb a k)))
+
+-- ── four words at once ──────────────────────────────────────────────────────────────────────────────────────────────────
+
+abbrev pub placed : List ℕ → ℕ → ℕ → ℕ → ℕ → ℕ → List ℕ
+placed R i x y z w = set (set (set (set R i x) (i + 1) y) (i + 2) z) (i + 3) w
+
+entry : (R : List ℕ) (i v p : ℕ) → i < length R → getD (set R i v) p 0 ≡ cond (eqb p i) v (getD R p 0)
+entry R i v p h =
+    byBool (eqb p i)
+    (λ t. let q : p ≡ i = eqb-true p i t in rw (t, q) (getD-set-same R i v 0 h))
+    (λ f. rw f (getD-set-other R i p v 0 (eqb-false p i f)))
+
+placed-at : (R : List ℕ) (i x y z w : ℕ) → i + 3 < length R → (p : ℕ)
+    → getD (placed R i x y z w) p 0 ≡ cond (eqb p (i + 3)) w (cond (eqb p (i + 2)) z (cond (eqb p (i + 1)) y (cond (eqb p i) x (getD R p 0))))
+placed-at R i x y z w h p =
+    let A = set R i x in
+    let B = set A (i + 1) y in
+    let C = set B (i + 2) z in
+    let la : length A ≡ length R = length-set R i x in
+    let lb : length B ≡ length A = length-set A (i + 1) y in
+    let lc : length C ≡ length B = length-set B (i + 2) z in
+    rw (entry C (i + 3) w p (omega arith), entry B (i + 2) z p (omega arith), entry A (i + 1) y p (omega arith), entry R i x p (omega arith))
+
+-- row k of R with each word changed by that of r
+abbrev pub changedRow : (ℕ → ℕ → ℕ) → List ℕ → List ℕ → ℕ → List ℕ
+changedRow op R r k =
+    placed R (k * 4) (op (getD R (k * 4) 0) (getD r 0 0)) (op (getD R (k * 4 + 1) 0) (getD r 1 0))
+    (op (getD R (k * 4 + 2) 0) (getD r 2 0)) (op (getD R (k * 4 + 3) 0) (getD r 3 0))
+
+module _ (op : ℕ → ℕ → ℕ) (R r : List ℕ) (k : ℕ) (h : k * 4 + 4 ≤ length R) where
+  at : (p : ℕ) → getD (changedRow op R r k) p 0
+      ≡ cond (eqb p (k * 4 + 3)) (op (getD R (k * 4 + 3) 0) (getD r 3 0))
+      (cond (eqb p (k * 4 + 2)) (op (getD R (k * 4 + 2) 0) (getD r 2 0))
+      (cond (eqb p (k * 4 + 1)) (op (getD R (k * 4 + 1) 0) (getD r 1 0)) (cond (eqb p (k * 4)) (op (getD R (k * 4) 0) (getD r 0 0)) (getD R p 0))))
+  at p =
+      placed-at R (k * 4) (op (getD R (k * 4) 0) (getD r 0 0)) (op (getD R (k * 4 + 1) 0) (getD r 1 0))
+      (op (getD R (k * 4 + 2) 0) (getD r 2 0)) (op (getD R (k * 4 + 3) 0) (getD r 3 0)) (omega arith) p
+
+  changed-in : (i : ℕ) → i < 4 → getD (changedRow op R r k) (k * 4 + i) 0 ≡ op (getD R (k * 4 + i) 0) (getD r i 0)
+  changed-in zero l =
+      rw (add-zero (k * 4))
+      (at (k * 4)
+      ∙ rw (
+        ne-eqb (k * 4) (k * 4 + 3) (λ q. omega arith),
+        ne-eqb (k * 4) (k * 4 + 2) (λ q. omega arith),
+        ne-eqb (k * 4) (k * 4 + 1) (λ q. omega arith),
+        eq-eqb (k * 4) (k * 4) refl,
+      ))
+  changed-in (suc zero) l =
+      at (k * 4 + 1)
+      ∙ rw (ne-eqb (k * 4 + 1) (k * 4 + 3) (λ q. omega arith), ne-eqb (k * 4 + 1) (k * 4 + 2) (λ q. omega arith), eq-eqb (k * 4 + 1) (k * 4 + 1) refl)
+  changed-in (suc (suc zero)) l =
+      at (k * 4 + 2) ∙ rw (ne-eqb (k * 4 + 2) (k * 4 + 3) (λ q. omega arith), eq-eqb (k * 4 + 2) (k * 4 + 2) refl)
+  changed-in (suc (suc (suc zero))) l = at (k * 4 + 3) ∙ rw (eq-eqb (k * 4 + 3) (k * 4 + 3) refl)
+  changed-in (suc (suc (suc (suc i)))) l = let f : suc (suc (suc (suc i))) < 4 = l in let z : ⊥ = omega arith in absurd z
+
+  changed-out : (a i : ℕ) → (a ≡ k → ⊥) → i < 4 → getD (changedRow op R r k) (a * 4 + i) 0 ≡ getD R (a * 4 + i) 0
+  changed-out a i n l =
+      at (a * 4 + i)
+      ∙ rw (
+        ne-eqb (a * 4 + i) (k * 4 + 3) (λ q. n (omega arith)),
+        ne-eqb (a * 4 + i) (k * 4 + 2) (λ q. n (omega arith)),
+        ne-eqb (a * 4 + i) (k * 4 + 1) (λ q. n (omega arith)),
+        ne-eqb (a * 4 + i) (k * 4) (λ q. n (omega arith)),
+      )
+
+  -- the bits of that row are changed alike, and no others
+  module _ (on : Bool → Bool → Bool) (law : (x y b : ℕ) → bit (op x y) b ≡ on (bit x b) (bit y b)) (none : on false false ≡ false) where
+    pub changed-own : (b : ℕ) → bitAt (changedRow op R r k) k b ≡ on (bitAt R k b) (bitAt r 0 b)
+    unfolding bitAt
+    changed-own b =
+        byBool (ltb b 256)
+        (λ t.
+        let l : b < 256 = ltb-true b 256 t in
+        let z : 0 * 4 + b / 64 ≡ b / 64 = omega arith in
+        rw (t, changed-in (b / 64) (omega arith), z) (law (getD R (k * 4 + b / 64) 0) (getD r (b / 64) 0) (b % 64)))
+        (λ f. rw f (sym none))
+
+    pub changed-other : (a b : ℕ) → (a ≡ k → ⊥) → bitAt (changedRow op R r k) a b ≡ bitAt R a b
+    changed-other a b n = same-row (changedRow op R r k) R a a (λ i l. changed-out a i n l) b
+
+pub united : (R r : List ℕ) (k : ℕ) → k * 4 + 4 ≤ length R → (a b : ℕ)
+    → bitAt (changedRow bitOr R r k) a b ≡ (bitAt R a b || (eqb a k && bitAt r 0 b))
+united R r k h a b =
+    byBool (eqb a k)
+    (λ t. let q : a ≡ k = eqb-true a k t in rw (t, q) (changed-own bitOr R r k h _||_ or-bit refl b))
+    (λ f. rw f (changed-other bitOr R r k h _||_ or-bit refl a b (eqb-false a k f) ∙ sym (or-false (bitAt R a b))))
+
+pub met : (R r : List ℕ) (k : ℕ) → k * 4 + 4 ≤ length R → (a b : ℕ)
+    → bitAt (changedRow bitAnd R r k) a b ≡ (bitAt R a b && (not (eqb a k) || bitAt r 0 b))
+met R r k h a b =
+    byBool (eqb a k)
+    (λ t. let q : a ≡ k = eqb-true a k t in rw (t, q) (changed-own bitAnd R r k h _&&_ and-bit refl b))
+    (λ f. rw f (changed-other bitAnd R r k h _&&_ and-bit refl a b (eqb-false a k f) ∙ sym (and-true (bitAt R a b))))
+
+-- a row alone
+pub copied : (R : List ℕ) (k : ℕ) (j : ℕ)
+    → bitAt (getD R (k * 4) 0 ∷ getD R (k * 4 + 1) 0 ∷ getD R (k * 4 + 2) 0 ∷ getD R (k * 4 + 3) 0 ∷ []) 0 j ≡ bitAt R k j
+copied R k j = same-row (getD R (k * 4) 0 ∷ getD R (k * 4 + 1) 0 ∷ getD R (k * 4 + 2) 0 ∷ getD R (k * 4 + 3) 0 ∷ []) R 0 k word j
+  where
+    word : (i : ℕ) → i < 4
+        → getD (getD R (k * 4) 0 ∷ getD R (k * 4 + 1) 0 ∷ getD R (k * 4 + 2) 0 ∷ getD R (k * 4 + 3) 0 ∷ []) (0 * 4 + i) 0 ≡ getD R (k * 4 + i) 0
+    word zero l = rw (add-zero (k * 4))
+    word (suc zero) l = refl
+    word (suc (suc zero)) l = refl
+    word (suc (suc (suc zero))) l = refl
+    word (suc (suc (suc (suc i)))) l = let f : suc (suc (suc (suc i))) < 4 = l in let z : ⊥ = omega arith in absurd z
+
+-- ── filling a table ─────────────────────────────────────────────────────────────────────────────────────────────────────
+
+-- one entry more of a table that a loop fills with v
+pub filled-more : (T : List ℕ) (i v : ℕ) → i < length T → ((k : ℕ) → k < i → getD T k 0 ≡ v) → (k : ℕ) → k < i + 1 → getD (set T i v) k 0 ≡ v
+filled-more T i v l h k lk =
+    byBool (eqb k i)
+    (λ t. let q : k ≡ i = eqb-true k i t in rw q (getD-set-same T i v 0 l))
+    (λ g. let ne : k ≡ i → ⊥ = eqb-false k i g in getD-set-other T i k v 0 ne ∙ h k (omega arith))
+
+-- zeros as far as the table goes are zeros everywhere
+pub zeros-all : (T : List ℕ) → ((k : ℕ) → k < length T → getD T k 0 ≡ 0) → (k : ℕ) → getD T k 0 ≡ 0
+zeros-all T h k =
+    byBool (ltb k (length T)) (λ t. h k (ltb-true k (length T) t)) (λ f. List·getD-eq-default T 0 (ltb-false k (length T) f))

@@ -1,0 +1,127 @@
+use native.Mathlib.Omega.{arith}
+use lib.ListN.{length-set}
+use Rattle.tables.proofs.Laws.{united}
+use borrow.Author.Needs.{needs}
+use Rattle.tables.proofs.unite.Statement.{statement}
+use Rattle.tables.proofs.unite.Tie as tie
+
+mul-i : tie.Need-mul-i
+mul-i c = search needs
+
+mul-a : tie.Need-mul-a
+mul-a c = search needs
+
+slice-read-a : tie.Need-slice-read-a
+slice-read-a c = search needs
+
+array-read-a : tie.Need-array-read-a
+array-read-a c = search needs
+
+add-b : tie.Need-add-b
+add-b c = search needs
+
+mul-b : tie.Need-mul-b
+mul-b c = search needs
+
+slice-read-b : tie.Need-slice-read-b
+slice-read-b c = search needs
+
+array-read-b : tie.Need-array-read-b
+array-read-b c = search needs
+
+add-c : tie.Need-add-c
+add-c c = search needs
+
+mul-c : tie.Need-mul-c
+mul-c c = search needs
+
+slice-read-c : tie.Need-slice-read-c
+slice-read-c c = search needs
+
+array-read-c : tie.Need-array-read-c
+array-read-c c = search needs
+
+add-d : tie.Need-add-d
+add-d c = search needs
+
+mul-d : tie.Need-mul-d
+mul-d c = search needs
+
+slice-read-d : tie.Need-slice-read-d
+slice-read-d c = search needs
+
+array-read-d : tie.Need-array-read-d
+array-read-d c = search needs
+
+mul-rows : tie.Need-mul-rows
+mul-rows c = search needs
+
+slice-write-rows : tie.Need-slice-write-rows
+slice-write-rows c = search needs
+
+add-rows : tie.Need-add-rows
+add-rows c = search needs
+
+mul-rows-2 : tie.Need-mul-rows-2
+mul-rows-2 c = search needs
+
+slice-write-rows-2 : tie.Need-slice-write-rows-2
+slice-write-rows-2 c = simp length-set (omega (arith, c .before .before .before .before .pre))
+
+add-rows-2 : tie.Need-add-rows-2
+add-rows-2 c = search needs
+
+mul-rows-3 : tie.Need-mul-rows-3
+mul-rows-3 c = search needs
+
+slice-write-rows-3 : tie.Need-slice-write-rows-3
+slice-write-rows-3 c = simp length-set (omega (arith, c .before .before .before .before .pre))
+
+add-rows-3 : tie.Need-add-rows-3
+add-rows-3 c = search needs
+
+mul-rows-4 : tie.Need-mul-rows-4
+mul-rows-4 c = search needs
+
+slice-write-rows-4 : tie.Need-slice-write-rows-4
+slice-write-rows-4 c = simp length-set (omega (arith, c .before .before .before .before .pre))
+
+same-length : tie.Need-same-length
+same-length c = search needs
+
+returns : tie.Need-returns
+returns c = let a = c .before .before .before .before .args in united (a .rows .now) (a .t3) (a .k) (c .before .before .before .before .pre)
+
+pub unite-spec : {M : Type 1} → statement M
+unite-spec =
+    tie.close
+    (tie.spec
+    mul-i
+    mul-a
+    slice-read-a
+    array-read-a
+    add-b
+    mul-b
+    slice-read-b
+    array-read-b
+    add-c
+    mul-c
+    slice-read-c
+    array-read-c
+    add-d
+    mul-d
+    slice-read-d
+    array-read-d
+    mul-rows
+    slice-write-rows
+    add-rows
+    mul-rows-2
+    slice-write-rows-2
+    add-rows-2
+    mul-rows-3
+    slice-write-rows-3
+    add-rows-3
+    mul-rows-4
+    slice-write-rows-4
+    same-length
+    returns)
