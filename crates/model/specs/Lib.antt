@@ -6,6 +6,7 @@ pub mod Heights
 pub mod Verdicts
 pub mod Map
 pub mod Rows
+pub mod Output
 pub mod Examples
 pub mod SetLaws
 pub mod HeightLaws
