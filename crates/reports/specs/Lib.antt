@@ -1,2 +1,3 @@
 pub mod Reports
+pub mod Opening
 pub mod Lifted
