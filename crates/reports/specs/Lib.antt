@@ -1,3 +1,3 @@
 pub mod Reports
-pub mod Opening
+pub mod Prepared
 pub mod Lifted

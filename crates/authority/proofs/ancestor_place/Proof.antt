@@ -1,0 +1,37 @@
+use mathlib.Core.Path.{sym, _∙_}
+use Rattle.authority.specs.EntryLaws.{no-bit}
+use borrow.Author.Needs.{needs}
+use Rattle.authority.proofs.ancestor_place.Statement.{statement}
+use Rattle.authority.proofs.ancestor_place.Tie as tie
+
+search-requires : tie.Need-search-requires
+search-requires c κs = search needs
+
+enum-known-p : tie.Need-enum-known-p
+enum-known-p c = search needs
+
+enum-told : tie.Need-enum-told
+enum-told c = search needs
+
+returns : tie.Need-returns
+returns c =
+    let a = c .before .before .before .before .before .before .before .args in
+    rw (sym (c .before .before .search .ensures) ∙ c .enum-told .given .1, no-bit (a .rows .now) (a .k))
+
+has-requires : tie.Need-has-requires
+has-requires c κs = search needs
+
+returns-2 : tie.Need-returns-2
+returns-2 c =
+    let found = c .before .before .before in
+    rw (sym (found .before .before .search .ensures) ∙ found .p .given .1, sym (c .before .has .ensures) ∙ c .if1 .taken)
+
+returns-3 : tie.Need-returns-3
+returns-3 c =
+    let found = c .before .before .before in
+    rw (sym (found .before .before .search .ensures) ∙ found .p .given .1, sym (c .before .has .ensures) ∙ c .if1 .left)
+
+pub ancestor-place-spec : {M : Type 1} → statement M
+ancestor-place-spec =
+    tie.close
+    (tie.spec search-requires enum-known-p enum-told returns has-requires returns-2 returns-3)

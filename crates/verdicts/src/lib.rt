@@ -1,0 +1,151 @@
+// From sound to effective: which places no effective revoke strikes, and the verdicts.
+ghost use mathlib.Core.Path.{_≡_};
+ghost use mathlib.Core.Bool.{Bool, not, _&&_, _||_};
+ghost use mathlib.Core.List.{List, List·Memᴰ};
+ghost use Prim.Native.Nat.{ℕ, _<_, _≤_};
+ghost use lib.Dec.{eqb};
+ghost use lib.ListN.{length, getD, take};
+ghost use Rattle.lists.specs.Bytes.{Bytes};
+ghost use Rattle.tables.specs.Bits.{bitAt};
+ghost use Rattle.verdicts.specs.Effects.{ByRank, Graded, Effects, narrowed, flag};
+ghost use Rattle.verdicts.specs.Verdicts.{rankOf, RankTable, verdictOf, VerdictTable, Judgeable, Tabled, Judged};
+
+// The level of the presented place; 0 for the creator and for a place that is not sound.
+fn rank(levels: &[u16], presented: &[u16], sound: &[u8], k: u16) -> u16
+    ensures { λ r. ⌜ r ≡ rankOf (now (levels .entry)) (now (presented .entry)) (now (sound .entry)) k ⌝ }
+{
+    if k == 0 {
+        return 0;
+    }
+    if octets::byte(sound, k as usize) == 1 {
+        return tables::entry(levels, tables::entry(presented, k));
+    }
+    0
+}
+
+// The rank of each place of the table.
+pub fn ranks(levels: &[u16], presented: &[u16], sound: &[u8], table: &mut [u16])
+    requires { ⌜ length (now table) ≤ 256 ⌝ }
+    ensures { λ _. ⌜ RankTable (length (now (table .entry))) (now (levels .entry)) (now (presented .entry)) (now (sound .entry)) (now (table .exit)) ⌝ }
+{
+    let mut k = 0;
+    while k < table.len() {
+        let r = rank(levels, presented, sound, k as u16);
+        table[k] = r;
+        k += 1;
+    }
+}
+
+// Where place e is a revoke, its target keeps only the ancestors of e.
+fn strike(targets: &[u16], rows: &[u64], keep: &mut [u64], e: u16)
+    requires { ⌜ (e < 256) × (length (now rows) ≡ 1024) × (length (now keep) ≡ 1024) ⌝ }
+    ensures { λ _. ⌜ ((a b : ℕ) → a < 256 → bitAt (now (keep .exit)) a b ≡ (bitAt (now (keep .entry)) a b && (not (eqb a (getD (now (targets .entry)) e 0)) || bitAt (now (rows .entry)) e b))) ⌝ }
+{
+    let t = tables::entry(targets, e);
+    if t < 256 {
+        let own = tables::row(rows, e);
+        tables::meet(keep, t, own);
+    }
+}
+
+// 1 where the row of the presented place keeps e. The row of e keeps what that row keeps; and where e is so an effective revoke,
+// it strikes.
+fn effect(presented: &[u16], targets: &[u16], rows: &[u64], keep: &mut [u64], e: u16) -> u8
+    requires { ⌜ (e < 256) × (getD (now presented) e 0 < 256) × (length (now rows) ≡ 1024) × (length (now keep) ≡ 1024) ⌝ }
+    ensures { λ r. ⌜ r ≡ flag (bitAt (now (keep .entry)) (getD (now (presented .entry)) e 0) e) ⌝ }
+    ensures { λ _. ⌜ ((a b : ℕ) → a < 256 → bitAt (now (keep .exit)) a b ≡ narrowed (now (presented .entry)) (now (targets .entry)) (now (rows .entry)) (now (keep .entry)) e a b) ⌝ }
+{
+    let g = tables::entry(presented, e);
+    let kept = tables::has(keep, g, e);
+    let above = tables::row(keep, g);
+    tables::meet(keep, e, above);
+    if kept {
+        strike(targets, rows, keep, e);
+        return 1;
+    }
+    0
+}
+
+// Only the creator is effective.
+fn start(effective: &mut [u8])
+    requires { ⌜ 0 < length (now effective) ⌝ }
+    ensures { λ _. ⌜ getD (now (effective .exit)) 0 0 ≡ 1 ⌝ }
+    ensures { λ _. ⌜ ((k : ℕ) → (k ≡ 0 → ⊥) → getD (now (effective .exit)) k 0 ≡ 0) ⌝ }
+{
+    let mut i = 0;
+    while i < effective.len() {
+        effective[i] = 0;
+        i += 1;
+    }
+    effective[0] = 1;
+}
+
+// 1 for each effective place, by a list of the sound ones by rank: what strikes a place stands before it. The contract holds for
+// all lines and ranks that suit the tables.
+pub fn effects(presented: &[u16], targets: &[u16], rows: &[u64], list: &[u16], effective: &mut [u8])
+    requires { ⌜ (0 < length (now effective)) × (length (now rows) ≡ 1024) × ((k : ℕ) → List·Memᴰ k (now list) → (k < 256) × (k < length (now effective)) × (getD (now presented) k 0 < 256)) ⌝ }
+    ensures { λ _. ⌜ ((on : ℕ → ℕ → Bool) (rank : ℕ → ℕ) → Graded on rank (now (presented .entry)) (now (targets .entry)) (now (list .entry)) → ByRank rank (now (list .entry)) → Effects on (now (targets .entry)) (now (rows .entry)) (now (list .entry)) (now (effective .exit))) ⌝ }
+{
+    start(effective);
+    let mut keep = [0u64; 1024];
+    tables::fill_rows(&mut keep);
+    let mut i = 0;
+    while i < list.len() {
+        let e = list[i];
+        let kept = effect(presented, targets, rows, &mut keep, e);
+        effective[e as usize] = kept;
+        i += 1;
+    }
+}
+
+// The verdict of place k.
+fn verdict(levels: &[u16], sound: &[u8], effective: &[u8], k: u16) -> u16
+    ensures { λ r. ⌜ r ≡ verdictOf (now (levels .entry)) (now (sound .entry)) (now (effective .entry)) k ⌝ }
+{
+    if tables::entry(levels, k) == 0 {
+        return 0;
+    }
+    if octets::byte(sound, k as usize) != 1 {
+        return 1;
+    }
+    if octets::byte(effective, k as usize) == 1 {
+        3
+    } else {
+        2
+    }
+}
+
+// The verdict of each place of the table: 0 waiting, 1 unsound, 2 void, 3 effective.
+pub fn verdicts(levels: &[u16], sound: &[u8], effective: &[u8], table: &mut [u16])
+    requires { ⌜ length (now table) ≤ 256 ⌝ }
+    ensures { λ _. ⌜ VerdictTable (length (now (table .entry))) (now (levels .entry)) (now (sound .entry)) (now (effective .entry)) (now (table .exit)) ⌝ }
+{
+    let mut k = 0;
+    while k < table.len() {
+        let v = verdict(levels, sound, effective, k as u16);
+        table[k] = v;
+        k += 1;
+    }
+}
+
+// The verdict of each place. The contract holds for every store whose tables these are.
+pub fn judge(
+    places: &[u16],
+    levels: &[u16],
+    presented: &[u16],
+    targets: &[u16],
+    sound: &[u8],
+    rows: &[u64],
+    table: &mut [u16],
+)
+    requires { ⌜ Judgeable (length (now table)) (now places) (now levels) (now presented) (now sound) × (length (now rows) ≡ 1024) ⌝ }
+    ensures { λ _. ⌜ ((store ids : Bytes) (index above : List ℕ) → Tabled store (length (now (table .entry))) ids index above (now (levels .entry)) (now (rows .entry)) (now (presented .entry)) (now (targets .entry)) (now (sound .entry)) → now (places .entry) ≡ take (length (now (table .entry))) index → Judged store (length (now (table .entry))) (now (table .exit))) ⌝ }
+{
+    let mut ranked = [0u16; 256];
+    ranks(levels, presented, sound, &mut ranked);
+    let mut list = [0u16; 256];
+    let count = history::by_rank(places, &ranked, &mut list);
+    let mut effective = [0u8; 256];
+    effects(presented, targets, rows, &list[..count], &mut effective);
+    verdicts(levels, sound, &effective, table);
+}
