@@ -31,7 +31,7 @@ use Rattle.ancestry.specs.Ancestors.{idOf}
 use Rattle.authority.specs.Lines.{targetAt, Authority}
 use Rattle.authority.specs.Sound.{grantAt, parentSound, parentsSound, permitsAt, targetSuitsAt, soundAt, bit, SoundTable}
 use Rattle.authority.specs.EntryLaws.{any-default, and-three}
-use Rattle.authority.specs.PlaceLaws.{level-some, Tables, AncestorAt, NoAncestor, Named, Unnamed, few, found, slot-place, level-is, settled-at, settled-level, presented-place, lines, target-place, target-is}
+use Rattle.authority.specs.PlaceLaws.{level-some, Tables, AncestorAt, NoAncestor, Named, Unnamed, few, found, slot-place, level-is, settled-at, level-of, presented-place, lines, target-place, target-is}
 use Rattle.authority.specs.KindLaws.{revoke-kind, permits-kind}
 
 -- the three parents' tests, where there are one or two
@@ -199,7 +199,7 @@ module _ {entry : ℕ → ℕ → ℕ} {store : Bytes} {n : ℕ} {ids : Bytes} {
 
   -- a sound event is settled
   sound-level : (k : ℕ) → k < n → sound seen (idOf store k) ≡ true → Settled k
-  sound-level k h t = settled-level tables k h (sound-settled held (idOf store k) t)
+  sound-level k h t = level-of tables k h (sound-settled held (idOf store k) t)
 
   waits : (k : ℕ) → k < n → getD T k 0 ≡ 0 → Right k
   waits k h z =

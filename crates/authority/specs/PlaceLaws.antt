@@ -8,28 +8,29 @@ use mathlib.Core.Option.{none, some, Option·some-injective}
 use mathlib.Core.List.{List, _∷_, map, List·Memᴰ, List·Memᴰ·cases-cons, List·Memᴰ·not-nil}
 use lib.Dec.{eqb, ltb}
 use lib.ListN.{length, getD, take}
-use borrow.Author.Tests.{eqb-true, eq-eqb, lt-ltb}
-use Rattle.lists.specs.Cases.{maybe, isSome, byBool, clash, clashOption, bool-eq}
-use Rattle.lists.specs.Bytes.{Bytes, sameBytes, same→, same←}
+use borrow.Author.Tests.{eqb-true, lt-ltb}
+use Rattle.lists.specs.Cases.{maybe, byBool, clashOption}
+use Rattle.lists.specs.Bytes.{Bytes, sameBytes}
 use Rattle.lists.specs.Tests.{anyOf, memberOf, any-map, any-cong}
 use Rattle.event.specs.Fields.{kindOf, presentedOf, targetOf}
 use Rattle.model.specs.Events.{Id, Event, isGrant}
 use Rattle.model.specs.Heights.{findIn, View, view, height, settled, ancestor}
 use Rattle.model.specs.Verdicts.{line, targetSuits}
-use Rattle.model.specs.HeightLaws.{height-found, settled→, settled←}
+use Rattle.model.specs.HeightLaws.{height-found, settled→}
 use Rattle.model.specs.AncestryLaws.{descendant-settled, ancestor-height, ancestor-settled}
 use Rattle.model.specs.LineLaws.{line-presents, line-ends}
 use Rattle.model.specs.Store.{eventOf, heldIn, storeGood}
 use Rattle.model.specs.StoreLaws.{checked→}
 use Rattle.store.specs.declared.Slot.the-variants.{At, Gap}
-use Rattle.store.specs.Tables.{idAt, slotIn, TablesOf}
+use Rattle.store.specs.Tables.{slotIn, TablesOf}
 use Rattle.store.specs.TableLaws.{slot-found}
 use Rattle.history.specs.Parents.{eventAt, placeBy, ParentTable}
 use Rattle.history.specs.Levels.{Fixed}
-use Rattle.history.specs.LevelLaws.{heightOf, bySlot, id-at, one-place, slot-at, find-at, find-gap, level-height}
+use Rattle.history.specs.LevelLaws.{heightOf, bySlot, id-at, find-at, find-gap, level-height}
 use Rattle.ancestry.specs.Ancestors.{idOf, AncestorBits}
+use Rattle.ancestry.specs.AncestorLaws.{find-place, same-place, settled-level, level-settled}
 use Rattle.authority.specs.Lines.{ifAncestor, presentedAt, targetAt, lineFrom, lineOf}
-use Rattle.authority.specs.Sound.{PresentedTable, TargetTable, targetSuitsAt, bit}
+use Rattle.authority.specs.Sound.{PresentedTable, TargetTable, targetSuitsAt}
 use Rattle.authority.specs.EntryLaws.{any-default, no-bit, cond-same}
 use Rattle.authority.specs.KindLaws.{grant-kind, revoke-kind}
 
@@ -90,25 +91,18 @@ module _ {entry : ℕ → ℕ → ℕ} {store : Bytes} {n : ℕ} {ids : Bytes} {
   pub few : n ≤ 256
   few = checked→ entry store n (tables .good) .at-most
 
-  -- ── the events by their places ──────────────────────────────────────────────────────────────────────────────────────
-
-  id-of : (k : ℕ) → k < n → idAt ids k ≡ idOf store k
-  unfolding eventOf
-  id-of k h = id-at entry store n (tables .good) ids index (tables .indexed) k h
+  -- ── the events by their places, and their levels ────────────────────────────────────────────────────────────────────────
 
   pub found : (k : ℕ) → k < n → findIn held (idOf store k) ≡ some (eventIn k)
-  found k h =
-      let slot = slot-at entry store n (tables .good) ids index (tables .indexed) k h in
-      ap (findIn held) (sym (id-of k h)) ∙ find-at entry store n (tables .good) ids index (tables .indexed) (idAt ids k) k slot .1
+  found = find-place entry store n (tables .good) ids index (tables .indexed)
 
   -- an id that the index has is that of the event at the place
   pub slot-place : (a : Id) (p : ℕ) → slotIn ids 0 (take n index) a ≡ At p → (p < n) × (idOf store p ≡ a)
+  unfolding eventOf
   slot-place a p e =
       let inside = find-at entry store n (tables .good) ids index (tables .indexed) a p e .0 in
-      (inside, sym (id-of p inside) ∙ slot-found ids 0 (take n index) a p e .1)
-
-  same-place : (p k : ℕ) → p < n → k < n → idOf store p ≡ idOf store k → p ≡ k
-  same-place p k a b e = one-place entry store n (tables .good) ids index (tables .indexed) p k a b (id-of p a ∙ e ∙ sym (id-of k b))
+      let id = id-at entry store n (tables .good) ids index (tables .indexed) p inside in
+      (inside, sym id ∙ slot-found ids 0 (take n index) a p e .1)
 
   pub level-is : (k : ℕ) → k < n → heightOf (getD T k 0) ≡ height seen (idOf store k)
   level-is = level-height entry store n (tables .good) ids index (tables .indexed) P (tables .parents) T (tables .long) (tables .fixed)
@@ -117,17 +111,13 @@ module _ {entry : ℕ → ℕ → ℕ} {store : Bytes} {n : ℕ} {ids : Bytes} {
   Settled k = getD T k 0 ≡ 0 → ⊥
 
   pub settled-at : (k : ℕ) → k < n → Settled k → settled seen (idOf store k) ≡ true
-  settled-at k h s = go (getD T k 0) refl
-    where
-      go : (t : ℕ) → getD T k 0 ≡ t → settled seen (idOf store k) ≡ true
-      go zero e = absurd (s e)
-      go (suc t) e = settled← seen (idOf store k) t (sym (level-is k h) ∙ ap heightOf e)
+  settled-at = level-settled entry store n (tables .good) ids index (tables .indexed) P (tables .parents) T (tables .long) (tables .fixed)
 
-  pub settled-level : (k : ℕ) → k < n → settled seen (idOf store k) ≡ true → Settled k
-  settled-level k h s z = clash (settled seen (idOf store k)) s (ap isSome (sym (level-is k h) ∙ ap heightOf z))
+  pub level-of : (k : ℕ) → k < n → settled seen (idOf store k) ≡ true → Settled k
+  level-of = settled-level entry store n (tables .good) ids index (tables .indexed) P (tables .parents) T (tables .long) (tables .fixed)
 
   -- an ancestor has a lower level
-  pub lower : (k p : ℕ) → k < n → p < n → ancestor seen (idOf store k) (idOf store p) ≡ true → Settled p × (getD T p 0 < getD T k 0)
+  lower : (k p : ℕ) → k < n → p < n → ancestor seen (idOf store k) (idOf store p) ≡ true → Settled p × (getD T p 0 < getD T k 0)
   lower k p h l t =
       let w = settled→ seen (idOf store k) (descendant-settled held (idOf store k) (idOf store p) t) in
       let u = ancestor-height held (idOf store k) (idOf store p) (w .0) (w .1) t in
@@ -137,6 +127,7 @@ module _ {entry : ℕ → ℕ → ℕ} {store : Bytes} {n : ℕ} {ids : Bytes} {
 
   -- ── ancestors by their places ─────────────────────────────────────────────────────────────────────────────────────────
 
+  -- an ancestor's id is held
   unheld : (i a : Id) → findIn held a ≡ none → ancestor seen i a ≡ false
   unheld i a u =
       byBool (ancestor seen i a)
@@ -146,6 +137,7 @@ module _ {entry : ℕ → ℕ → ℕ} {store : Bytes} {n : ℕ} {ids : Bytes} {
       clashOption (findIn held a) (f .0) u (f .1))
       (λ f. f)
 
+  -- any id is that of an ancestor of a settled place, and found at its place, or it is none's
   ancestor-place : (k : ℕ) (a : Id) → k < n → Settled k
       → AncestorAt store n k a (ifAncestor M k (placeBy n ids index a)) ⊎ NoAncestor store n k a (ifAncestor M k (placeBy n ids index a))
   ancestor-place k a h s = bySlot (slotIn ids 0 (take n index) a) at gone
@@ -168,6 +160,7 @@ module _ {entry : ℕ → ℕ → ℕ} {store : Bytes} {n : ℕ} {ids : Bytes} {
 
   -- ── lines ─────────────────────────────────────────────────────────────────────────────────────────────────────────────
 
+  -- the entry of a settled place is where the presented ancestor stands
   pub presented-place : (k : ℕ) → k < n → Settled k
       → AncestorAt store n k (eventIn k .presented) (getD Q k 256) ⊎ NoAncestor store n k (eventIn k .presented) (getD Q k 256)
   unfolding presentedAt eventOf
@@ -175,6 +168,7 @@ module _ {entry : ℕ → ℕ → ℕ} {store : Bytes} {n : ℕ} {ids : Bytes} {
       let read = any-default Q k 256 0 (omega (arith, few, tables .presented-long)) ∙ tables .presents .entry k h in
       rw read (ancestor-place k (presentedOf (eventAt store k)) h s)
 
+  -- one step: what is presented, then its line, or the end
   line-step : (f k : ℕ) → k < n → Settled k → getD T k 0 ≤ suc f
       → ((p : ℕ) → p < n → Settled p → getD T p 0 ≤ f → LineIs store n p (lineFrom Q f p)) → LineIs store n k (lineFrom Q (suc f) k)
   unfolding lineFrom
@@ -200,6 +194,7 @@ module _ {entry : ℕ → ℕ → ℕ} {store : Bytes} {n : ℕ} {ids : Bytes} {
             all-inside = λ j m. absurd (List·Memᴰ·not-nil m);
           })
 
+  -- as many steps as the level says are enough
   pub lines : (f k : ℕ) → k < n → Settled k → getD T k 0 ≤ f → LineIs store n k (lineFrom Q f k)
   lines zero k h s l = absurd (s (omega arith))
   lines (suc f) k h s l = line-step f k h s l (λ p. lines f p)
@@ -211,12 +206,10 @@ module _ {entry : ℕ → ℕ → ℕ} {store : Bytes} {n : ℕ} {ids : Bytes} {
       → memberOf (idOf store q) (map (idOf store) m) ≡ anyOf (eqb q) m
   member-is q h m inside =
       any-map (sameBytes (idOf store q)) (idOf store) m
-      ∙ any-cong (λ j. sameBytes (idOf store q) (idOf store j)) (eqb q) m (λ j i. bool-eq
-      (sameBytes (idOf store q) (idOf store j))
-      (eqb q j)
-      (λ t. eq-eqb q j (same-place q j h (inside j i) (same→ (idOf store q) (idOf store j) t)))
-      (λ t. same← (idOf store q) (idOf store j) (ap (idOf store) (eqb-true q j t))))
+      ∙ any-cong (λ j. sameBytes (idOf store q) (idOf store j)) (eqb q) m
+      (λ j i. sym (same-place entry store n (tables .good) ids index (tables .indexed) q j h (inside j i)))
 
+  -- the ancestor that is named, by its kind
   kind-cases : (k t : ℕ) → AncestorAt store n k (eventIn k .target) t ⊎ NoAncestor store n k (eventIn k .target) t
       → Named store n k (cond (eqb (kindOf (eventAt store t)) 1) t 256) ⊎ Unnamed store n k (cond (eqb (kindOf (eventAt store t)) 1) t 256)
   kind-cases k t = ⊎-elim at gone
@@ -234,6 +227,7 @@ module _ {entry : ℕ → ℕ → ℕ} {store : Bytes} {n : ℕ} {ids : Bytes} {
       gone : NoAncestor store n k (eventIn k .target) t → Cases
       gone w = inr (record { refused = rw (w .none-such); no-place = rw (w .no-place) (cond-same (eqb (kindOf (eventAt store 256)) 1)) })
 
+  -- the entry of a settled revoke is where the named grant stands
   pub target-place : (k : ℕ) → k < n → Settled k → kindOf (eventAt store k) ≡ 2 → Named store n k (getD G k 256) ⊎ Unnamed store n k (getD G k 256)
   unfolding targetAt eventOf
   target-place k h s e =
@@ -242,6 +236,7 @@ module _ {entry : ℕ → ℕ → ℕ} {store : Bytes} {n : ℕ} {ids : Bytes} {
       any-default G k 256 0 (omega (arith, few, tables .targets-long)) ∙ tables .names .entry k h ∙ rw e in
       rw read (kind-cases k t (ancestor-place k (targetOf (eventAt store k)) h s))
 
+  -- the condition on targets, where an ancestor is presented
   pub target-is : (k : ℕ) → k < n → Settled k → AncestorAt store n k (eventIn k .presented) (getD Q k 256)
       → targetSuits seen (eventIn k) ≡ targetSuitsAt store T Q G k
   unfolding targetSuits targetSuitsAt
