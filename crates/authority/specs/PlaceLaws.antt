@@ -117,7 +117,7 @@ module _ {entry : ℕ → ℕ → ℕ} {store : Bytes} {n : ℕ} {ids : Bytes} {
   level-of = settled-level entry store n (tables .good) ids index (tables .indexed) P (tables .parents) T (tables .long) (tables .fixed)
 
   -- an ancestor has a lower level
-  lower : (k p : ℕ) → k < n → p < n → ancestor seen (idOf store k) (idOf store p) ≡ true → Settled p × (getD T p 0 < getD T k 0)
+  pub lower : (k p : ℕ) → k < n → p < n → ancestor seen (idOf store k) (idOf store p) ≡ true → Settled p × (getD T p 0 < getD T k 0)
   lower k p h l t =
       let w = settled→ seen (idOf store k) (descendant-settled held (idOf store k) (idOf store p) t) in
       let u = ancestor-height held (idOf store k) (idOf store p) (w .0) (w .1) t in

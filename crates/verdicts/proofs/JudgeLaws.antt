@@ -2,24 +2,31 @@
 use Prim.Native.Nat.{ℕ, _<_, _≤_}
 use native.Mathlib.Omega.{arith}
 use mathlib.Core.Path.{_≡_, sym, ap, _∙_, subst}
-use mathlib.Core.Bool.{Bool, true, false}
+use mathlib.Core.Bool.{Bool, true}
 use mathlib.Core.List.{List, _++_, List·Memᴰ}
 use lib.Dec.{eqb, ltb}
-use lib.ListN.{length, getD, take, List·getD-eq-default}
+use lib.ListN.{length, getD, take, length-take, List·getD-eq-default}
 use lib.Seq.{take-take, take-at}
-use borrow.Author.Tests.{eqb-true, eqb-false, ltb-true, ltb-false}
+use borrow.Author.Tests.{eqb-true, eqb-false, eq-eqb, ltb-true, ltb-false}
 use Rattle.lists.specs.Cases.{byBool}
 use Rattle.lists.specs.Bytes.{Bytes}
 use Rattle.cords.specs.Cords.{cordLimit}
-use Rattle.store.specs.Tables.{idAt}
-use Rattle.history.specs.Levels.{Low}
+use Rattle.model.specs.Store.{storeGood}
+use Rattle.store.specs.Tables.{idAt, TablesOf}
+use Rattle.history.specs.Parents.{ParentTable}
+use Rattle.history.specs.Levels.{Low, Fixed}
 use Rattle.history.specs.Order.{ofRank, ranked}
 use Rattle.history.specs.OrderLaws.{ranked→, rank-rest}
-use Rattle.history.specs.Placed.{index-ascends}
+use Rattle.history.specs.Placed.{index-ascends, listed→, level-low, settled-in, in-settled}
+use Rattle.ancestry.specs.Ancestors.{AncestorRows}
+use Rattle.ancestry.specs.AncestorLaws.{ancestor-bits}
+use Rattle.authority.specs.Sound.{PresentedTable, TargetTable, SoundTable}
+use Rattle.authority.specs.PlaceLaws.{Tables, few}
+use Rattle.authority.specs.AuthorityLaws.{authority}
 use Rattle.verdicts.specs.Effects.{ByRank, Graded, Effects}
-use Rattle.verdicts.specs.Verdicts.{rankOf, RankTable, onLine, VerdictTable, Judgeable, Tabled, Judged}
-use Rattle.verdicts.specs.RankLaws.{by-rank}
-use Rattle.verdicts.specs.EffectLaws.{graded, verdict-at}
+use Rattle.verdicts.specs.Verdicts.{rankOf, RankTable, VerdictTable, Judgeable, Tabled, Judged}
+use Rattle.verdicts.proofs.RankLaws.{by-rank}
+use Rattle.verdicts.proofs.EffectLaws.{onLine, graded, verdict-at}
 
 module _ (n : ℕ) (places T Q S R : List ℕ) (judgeable : Judgeable n places T Q S) (ranks : RankTable 256 T Q S R) where
   -- a place with a rank is sound and not the creator's
@@ -74,12 +81,12 @@ module _ (n : ℕ) (places T Q S R : List ℕ) (judgeable : Judgeable n places T
 pub judged : (store ids : Bytes) (n : ℕ) (index P T M Q G S R l E Z : List ℕ) → Tabled store n ids index P T M Q G S
     → RankTable 256 T Q S R → l ≡ ranked R (take n index) 256
     → ((on : ℕ → ℕ → Bool) (rank : ℕ → ℕ) → Graded on rank Q G l → ByRank rank l → Effects on G M l E)
-    → VerdictTable n T S E Z → n ≤ 256 → Judged store n Z
-judged store ids n index P T M Q G S R l E Z t ranks e effects verdicts few =
-    record { entry = verdict-at cordLimit store n (t .good) ids index (t .tables) P (t .reads) T (t .long) (t .fixed) M (t .bits) Q G S (t .authority) R below E law Z verdicts }
+    → VerdictTable n T S E Z → Judged store n Z
+judged store ids n index P T M Q G S R l E Z t ranks e effects verdicts =
+    record { entry = verdict-at (t .tables) S (t .authority) R below E law Z verdicts }
   where
     below : RankTable n T Q S R
-    below = record { entry = λ k h. ranks .entry k (omega (arith, h, few)) }
+    below = record { entry = λ k h. ranks .entry k (omega (arith, h, few (t .tables))) }
 
     listed : List ℕ
     listed = ranked R (take n index) 256
@@ -88,5 +95,60 @@ judged store ids n index P T M Q G S R l E Z t ranks e effects verdicts few =
     law =
         subst (λ (x : List ℕ). (on : ℕ → ℕ → Bool) (rank : ℕ → ℕ) → Graded on rank Q G x → ByRank rank x → Effects on G M x E) e effects
         (onLine store n) (λ k. getD R k 0)
-        (graded cordLimit store n (t .good) ids index (t .tables) P (t .reads) T (t .long) (t .fixed) M (t .bits) Q G S (t .authority) R below)
-        (by-rank R (take n index) (idAt ids) (index-ascends cordLimit store n (t .good) ids index (t .tables)) 256)
+        (graded (t .tables) S (t .authority) R below)
+        (by-rank R (take n index) (idAt ids) (index-ascends cordLimit store n (t .tables .good) ids index (t .tables .indexed)) 256)
+
+-- the tables that the steps make
+pub tabled : (store : Bytes) (n : ℕ) (ids : Bytes) (index P T M Q G S l : List ℕ) → storeGood cordLimit store n ≡ true
+    → TablesOf store n ids index → ParentTable store n ids index P → length T ≡ n → Fixed P T → l ≡ ranked T (take n index) 256
+    → AncestorRows P l M → length Q ≡ 256 → PresentedTable store n ids index M Q → length G ≡ 256 → TargetTable store n ids index M G
+    → SoundTable store P T Q G l S → Tabled store n ids index P T M Q G S
+tabled store n ids index P T M Q G S l good indexed parents long fixed e rows lq presents lg names sounds =
+    record { tables = made; authority = authority made S l sounds settled-listed (λ k m. only k (subst (List·Memᴰ k) e m) .1) }
+  where
+    settled-listed : (k : ℕ) → k < n → (getD T k 0 ≡ 0 → ⊥) → List·Memᴰ k l
+    settled-listed k h ne = subst (List·Memᴰ k) (sym e) (settled-in cordLimit store n good ids index indexed P parents T long fixed k h ne)
+
+    only : (k : ℕ) → List·Memᴰ k (ranked T (take n index) 256) → (k < n) × (getD T k 0 ≡ 0 → ⊥)
+    only = in-settled cordLimit store n good ids index indexed P parents T long fixed
+
+    made : Tables cordLimit store n ids index P T M Q G
+    made =
+        record {
+          good = good;
+          indexed = indexed;
+          parents = parents;
+          long = long;
+          fixed = fixed;
+          ancestors = ancestor-bits cordLimit store n good ids index indexed P parents T long fixed M l rows settled-listed;
+          presented-long = lq;
+          presents = presents;
+          targets-long = lg;
+          names = names;
+        }
+
+-- they meet what the judgement asks
+judgeable : (store : Bytes) (n : ℕ) (ids : Bytes) (index P T M Q G S : List ℕ) → Tabled store n ids index P T M Q G S
+    → Judgeable n (take n index) T Q S
+judgeable store n ids index P T M Q G S t =
+    let b = t .tables in
+    record {
+      few = few b;
+      few-places = omega (arith, few b, length-take n index);
+      each = listed→ cordLimit store n (b .good) ids index (b .indexed);
+      low = level-low cordLimit store n (b .good) ids index (b .indexed) P (b .parents) T (b .long) (b .fixed);
+      presented-low =
+          λ k h ne s. omega (arith, few b, t .authority .presents k h ne (sym (t .authority .sound-is k h) ∙ eq-eqb _ 1 s) .0);
+    }
+
+-- a table whose length is n
+module _ (store : Bytes) (n m : ℕ) (ids : Bytes) (index P T M Q G S : List ℕ) (e : m ≡ n) (t : Tabled store n ids index P T M Q G S) where
+  pub judgeable-by : Judgeable m (take n index) T Q S
+  judgeable-by = subst (λ (k : ℕ). Judgeable k (take n index) T Q S) (sym e) (judgeable store n ids index P T M Q G S t)
+
+  pub judged-by : (Z : List ℕ)
+      → ((store ids : Bytes) (other P : List ℕ) → Tabled store m ids other P T M Q G S → take n index ≡ take m other → Judged store m Z)
+      → Judged store n Z
+  judged-by Z f =
+      subst (λ (k : ℕ). Judged store k Z) e
+      (f store ids index P (subst (λ (k : ℕ). Tabled store k ids index P T M Q G S) (sym e) t) (ap (λ (k : ℕ). take k index) (sym e)))

@@ -26,11 +26,12 @@ use borrow.Author.Tests.{eqb-true, eqb-false, eq-eqb, ne-eqb, ltb-true, ltb-fals
 use Rattle.lists.specs.Cases.{byBool, clash, and→, and←, or→, or←l, or←r}
 use Rattle.lists.specs.Sorting.{mem-getD}
 use Rattle.tables.specs.Bits.{bitAt}
-use Rattle.verdicts.specs.Effects.{ByRank, Graded, Struck, Effects, narrowed, flag}
+use Rattle.authority.specs.Sound.{bit}
+use Rattle.verdicts.specs.Effects.{ByRank, Graded, Struck, Effects, narrowed}
 
-flag-one : (b : Bool) → flag b ≡ 1 → b ≡ true
-flag-one true e = refl
-flag-one false e = let z : ⊥ = omega arith in absurd z
+bit-one : (b : Bool) → bit b ≡ 1 → b ≡ true
+bit-one true e = refl
+bit-one false e = let z : ⊥ = omega arith in absurd z
 
 -- a → b, as a test
 implies→ : (a b : Bool) → (not a || b) ≡ true → a ≡ true → b ≡ true
@@ -157,7 +158,7 @@ module _ (on : ℕ → ℕ → Bool) (G M l : List ℕ) where
     q = getD Q (getD l i 0) 0
 
     abbrev now-effective : List ℕ
-    now-effective = set E (getD l i 0) (flag (bitAt K (getD Q (getD l i 0) 0) (getD l i 0)))
+    now-effective = set E (getD l i 0) (bit (bitAt K (getD Q (getD l i 0) 0) (getD l i 0)))
 
     listed : List·Memᴰ e l
     listed = mem-getD l i 0 h
@@ -165,11 +166,11 @@ module _ (on : ℕ → ℕ → Bool) (G M l : List ℕ) where
     apart : (k : ℕ) → List·Memᴰ k (take i l) → k ≡ e → ⊥
     apart k m s = sorted .once i h (Memᴰ·cast (sym s) m)
 
-    new : getD now-effective e 0 ≡ flag (bitAt K q e)
-    new = getD-set-same E e (flag (bitAt K q e)) 0 inside
+    new : getD now-effective e 0 ≡ bit (bitAt K q e)
+    new = getD-set-same E e (bit (bitAt K q e)) 0 inside
 
     same : (k : ℕ) → (k ≡ e → ⊥) → getD now-effective k 0 ≡ getD E k 0
-    same k ne = getD-set-other E e k (flag (bitAt K q e)) 0 ne
+    same k ne = getD-set-other E e k (bit (bitAt K q e)) 0 ne
 
     kept : (k : ℕ) → List·Memᴰ k (take i l) → getD now-effective k 0 ≡ getD E k 0
     kept k m = same k (apart k m)
@@ -248,7 +249,7 @@ module _ (on : ℕ → ℕ → Bool) (G M l : List ℕ) where
         ⊎-elim
         (λ n. turn .not-struck k n (sym (kept k n) ∙ y) (struck→ k m s))
         (λ (p : k ≡ e).
-        let t = flag-one (bitAt K q e) (sym new ∙ ap (λ (x : ℕ). getD now-effective x 0) (sym p) ∙ y) in
+        let t = bit-one (bitAt K q e) (sym new ∙ ap (λ (x : ℕ). getD now-effective x 0) (sym p) ∙ y) in
         bit→ t (subst (λ (x : ℕ). Struck on G M l E x) p (struck→ k m s)))
         (more→ l i h k m)
 
@@ -258,7 +259,7 @@ module _ (on : ℕ → ℕ → Bool) (G M l : List ℕ) where
         (λ n. kept k n ∙ turn .unstruck k n (λ s. none (struck← k m s)))
         (λ (p : k ≡ e).
         let t = bit← (λ s. none (struck← k m (subst (λ (x : ℕ). Struck on G M l E x) (sym p) s))) in
-        ap (λ (x : ℕ). getD now-effective x 0) p ∙ new ∙ ap flag t)
+        ap (λ (x : ℕ). getD now-effective x 0) p ∙ new ∙ ap bit t)
         (more→ l i h k m)
 
     module _ (K′ : List ℕ) (rows : (a b : ℕ) → a < 256 → bitAt K′ a b ≡ narrowed Q G M K e a b) where
@@ -288,7 +289,7 @@ module _ (on : ℕ → ℕ → Bool) (G M l : List ℕ) where
           itself : r ≡ e → (bitAt K q e && eqb g (getD G e 0) ≡ true → bitAt M e j ≡ true) → Aims (take (i + 1) l) r g
               → bitAt M r j ≡ true
           itself p own a =
-              let t = flag-one (bitAt K q e) (sym new ∙ ap (λ (x : ℕ). getD now-effective x 0) (sym p) ∙ y) in
+              let t = bit-one (bitAt K q e) (sym new ∙ ap (λ (x : ℕ). getD now-effective x 0) (sym p) ∙ y) in
               ⊎-elim
               (λ (s : getD G r 0 ≡ g).
               ap (λ (x : ℕ). bitAt M x j) p
@@ -318,7 +319,7 @@ module _ (on : ℕ → ℕ → Bool) (G M l : List ℕ) where
               implies← (bitAt K q e && eqb g (getD G e 0)) (bitAt M e j)
               (λ t.
               let both = and→ (bitAt K q e) (eqb g (getD G e 0)) t in
-              spares e (last l i h) (new ∙ ap flag (both .0)) (inl (sym (eqb-true g (getD G e 0) (both .1)))))
+              spares e (last l i h) (new ∙ ap bit (both .0)) (inl (sym (eqb-true g (getD G e 0) (both .1)))))
 
       pub turn-again : Turn K′ now-effective (i + 1)
       turn-again =

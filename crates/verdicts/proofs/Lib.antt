@@ -1,2 +1,4 @@
 pub mod Laws
+pub mod RankLaws
+pub mod EffectLaws
 pub mod JudgeLaws

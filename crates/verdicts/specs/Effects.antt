@@ -2,7 +2,7 @@
 -- of the sound places other than the creator's, E the table of effects: 1 where the place is effective.
 use Prim.Native.Nat.{ℕ, _<_, _≤_}
 use mathlib.Core.Path.{_≡_}
-use mathlib.Core.Bool.{Bool, true, false, _&&_, _||_, not, cond}
+use mathlib.Core.Bool.{Bool, true, false, _&&_, _||_, not}
 use mathlib.Core.List.{List, List·Memᴰ}
 use lib.Dec.{eqb}
 use lib.ListN.{length, getD, take}
@@ -45,7 +45,3 @@ narrowed Q G M K e a b =
     bitAt K a b
     && (not (eqb a e) || bitAt K (getD Q e 0) b)
     && (not (bitAt K (getD Q e 0) e && eqb a (getD G e 0)) || bitAt M e b)
-
--- 1 for true
-abbrev pub flag : Bool → ℕ
-flag b = cond b 1 0

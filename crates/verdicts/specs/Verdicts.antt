@@ -2,21 +2,19 @@
 -- presented places and the targets; S and E have 1 where a place is sound and where it is effective.
 use Prim.Native.Nat.{ℕ, _<_, _≤_}
 use mathlib.Core.Path.{_≡_}
-use mathlib.Core.Bool.{Bool, true, cond, _&&_}
+use mathlib.Core.Bool.{cond}
 use mathlib.Core.List.{List, List·Memᴰ}
-use lib.Dec.{eqb, ltb}
-use lib.ListN.{length, getD, take}
+use lib.Dec.{eqb}
+use lib.ListN.{length, getD}
 use Rattle.lists.specs.Bytes.{Bytes}
-use Rattle.lists.specs.Tests.{memberOf}
 use Rattle.cords.specs.Cords.{cordLimit}
 use Rattle.model.specs.Heights.{view}
-use Rattle.model.specs.Verdicts.{line, verdict}
-use Rattle.model.specs.Store.{heldIn, storeGood}
-use Rattle.store.specs.Tables.{TablesOf}
-use Rattle.history.specs.Parents.{ParentTable}
-use Rattle.history.specs.Levels.{Low, Fixed}
-use Rattle.ancestry.specs.Ancestors.{idOf, AncestorBits}
+use Rattle.model.specs.Verdicts.{verdict}
+use Rattle.model.specs.Store.{heldIn}
+use Rattle.history.specs.Levels.{Low}
+use Rattle.ancestry.specs.Ancestors.{idOf}
 use Rattle.authority.specs.Lines.{Authority}
+use Rattle.authority.specs.PlaceLaws.{Tables}
 
 -- the rank of a sound place is the level of the presented one; the creator and what is not sound have none
 unfoldable pub rankOf : List ℕ → List ℕ → List ℕ → ℕ → ℕ
@@ -24,10 +22,6 @@ rankOf T Q S k = cond (eqb k 0) 0 (cond (eqb (getD S k 0) 1) (getD T (getD Q k 0
 
 pub record RankTable (n : ℕ) (T Q S R : List ℕ) : Type 0 where
   pub entry : (k : ℕ) → k < n → getD R k 0 ≡ rankOf T Q S k
-
--- place t is on the line of place k
-unfoldable pub onLine : Bytes → ℕ → ℕ → ℕ → Bool
-onLine store n k t = ltb t n && memberOf (idOf store t) (line (view (heldIn store n)) (idOf store k))
 
 -- "0 waiting, 1 unsound, 2 void, 3 effective"
 unfoldable pub verdictOf : List ℕ → List ℕ → List ℕ → ℕ → ℕ
@@ -46,12 +40,7 @@ pub record Judgeable (n : ℕ) (places T Q S : List ℕ) : Type 0 where
 
 -- the tables are those of the store's first n places
 pub record Tabled (store : Bytes) (n : ℕ) (ids : Bytes) (index P T M Q G S : List ℕ) : Type 0 where
-  pub good : storeGood cordLimit store n ≡ true
-  pub tables : TablesOf store n ids index
-  pub reads : ParentTable store n ids index P
-  pub long : length T ≡ n
-  pub fixed : Fixed P T
-  pub bits : AncestorBits store n T M
+  pub tables : Tables cordLimit store n ids index P T M Q G
   pub authority : Authority store n T Q G S
 
 -- the table has the verdict of each event held

@@ -1,13 +1,20 @@
 // From sound to effective: which places no effective revoke strikes, and the verdicts.
 ghost use mathlib.Core.Path.{_≡_};
-ghost use mathlib.Core.Bool.{Bool, not, _&&_, _||_};
+ghost use mathlib.Core.Bool.{Bool, true, not, _&&_, _||_};
 ghost use mathlib.Core.List.{List, List·Memᴰ};
 ghost use Prim.Native.Nat.{ℕ, _<_, _≤_};
 ghost use lib.Dec.{eqb};
 ghost use lib.ListN.{length, getD, take};
 ghost use Rattle.lists.specs.Bytes.{Bytes};
+ghost use Rattle.cords.specs.Cords.{cordLimit};
+ghost use Rattle.model.specs.Store.{storeGood};
+ghost use Rattle.store.specs.Tables.{TablesOf};
+ghost use Rattle.history.specs.Parents.{ParentTable};
+ghost use Rattle.history.specs.Levels.{Fixed};
+ghost use Rattle.history.specs.Order.{ranked};
 ghost use Rattle.tables.specs.Bits.{bitAt};
-ghost use Rattle.verdicts.specs.Effects.{ByRank, Graded, Effects, narrowed, flag};
+ghost use Rattle.authority.specs.Sound.{bit};
+ghost use Rattle.verdicts.specs.Effects.{ByRank, Graded, Effects, narrowed};
 ghost use Rattle.verdicts.specs.Verdicts.{rankOf, RankTable, verdictOf, VerdictTable, Judgeable, Tabled, Judged};
 
 // The level of the presented place; 0 for the creator and for a place that is not sound.
@@ -24,7 +31,7 @@ fn rank(levels: &[u16], presented: &[u16], sound: &[u8], k: u16) -> u16
 }
 
 // The rank of each place of the table.
-pub fn ranks(levels: &[u16], presented: &[u16], sound: &[u8], table: &mut [u16])
+fn ranks(levels: &[u16], presented: &[u16], sound: &[u8], table: &mut [u16])
     requires { ⌜ length (now table) ≤ 256 ⌝ }
     ensures { λ _. ⌜ RankTable (length (now (table .entry))) (now (levels .entry)) (now (presented .entry)) (now (sound .entry)) (now (table .exit)) ⌝ }
 {
@@ -48,11 +55,11 @@ fn strike(targets: &[u16], rows: &[u64], keep: &mut [u64], e: u16)
     }
 }
 
-// 1 where the row of the presented place keeps e. The row of e keeps what that row keeps; and where e is so an effective revoke,
-// it strikes.
+// Whether e is effective (1): the row of the presented place keeps it. The row of e then keeps no more than that row, and an
+// effective revoke strikes.
 fn effect(presented: &[u16], targets: &[u16], rows: &[u64], keep: &mut [u64], e: u16) -> u8
     requires { ⌜ (e < 256) × (getD (now presented) e 0 < 256) × (length (now rows) ≡ 1024) × (length (now keep) ≡ 1024) ⌝ }
-    ensures { λ r. ⌜ r ≡ flag (bitAt (now (keep .entry)) (getD (now (presented .entry)) e 0) e) ⌝ }
+    ensures { λ r. ⌜ r ≡ bit (bitAt (now (keep .entry)) (getD (now (presented .entry)) e 0) e) ⌝ }
     ensures { λ _. ⌜ ((a b : ℕ) → a < 256 → bitAt (now (keep .exit)) a b ≡ narrowed (now (presented .entry)) (now (targets .entry)) (now (rows .entry)) (now (keep .entry)) e a b) ⌝ }
 {
     let g = tables::entry(presented, e);
@@ -80,9 +87,10 @@ fn start(effective: &mut [u8])
     effective[0] = 1;
 }
 
-// 1 for each effective place, by a list of the sound ones by rank: what strikes a place stands before it. The contract holds for
-// all lines and ranks that suit the tables.
-pub fn effects(presented: &[u16], targets: &[u16], rows: &[u64], list: &[u16], effective: &mut [u8])
+// 1 for each effective place, by a list of the sound ones by rank: what strikes a place stands before it. Row g of `keep` has the
+// places that each effective revoke of g, or of a place on the line of g, has as an ancestor. The contract holds for all lines
+// and ranks that suit the tables.
+fn effects(presented: &[u16], targets: &[u16], rows: &[u64], list: &[u16], effective: &mut [u8])
     requires { ⌜ (0 < length (now effective)) × (length (now rows) ≡ 1024) × ((k : ℕ) → List·Memᴰ k (now list) → (k < 256) × (k < length (now effective)) × (getD (now presented) k 0 < 256)) ⌝ }
     ensures { λ _. ⌜ ((on : ℕ → ℕ → Bool) (rank : ℕ → ℕ) → Graded on rank (now (presented .entry)) (now (targets .entry)) (now (list .entry)) → ByRank rank (now (list .entry)) → Effects on (now (targets .entry)) (now (rows .entry)) (now (list .entry)) (now (effective .exit))) ⌝ }
 {
@@ -116,7 +124,7 @@ fn verdict(levels: &[u16], sound: &[u8], effective: &[u8], k: u16) -> u16
 }
 
 // The verdict of each place of the table: 0 waiting, 1 unsound, 2 void, 3 effective.
-pub fn verdicts(levels: &[u16], sound: &[u8], effective: &[u8], table: &mut [u16])
+fn verdicts(levels: &[u16], sound: &[u8], effective: &[u8], table: &mut [u16])
     requires { ⌜ length (now table) ≤ 256 ⌝ }
     ensures { λ _. ⌜ VerdictTable (length (now (table .entry))) (now (levels .entry)) (now (sound .entry)) (now (effective .entry)) (now (table .exit)) ⌝ }
 {
@@ -129,7 +137,7 @@ pub fn verdicts(levels: &[u16], sound: &[u8], effective: &[u8], table: &mut [u16
 }
 
 // The verdict of each place. The contract holds for every store whose tables these are.
-pub fn judge(
+fn judge(
     places: &[u16],
     levels: &[u16],
     presented: &[u16],
@@ -148,4 +156,42 @@ pub fn judge(
     let mut effective = [0u8; 256];
     effects(presented, targets, rows, &list[..count], &mut effective);
     verdicts(levels, sound, &effective, table);
+}
+
+// The verdict of each event held, from the tables of a store that passes check 2: `order` are the settled places by level.
+pub fn held_verdicts(
+    store: &[u8],
+    n: u16,
+    ids: &[u8],
+    index: &[u16],
+    parents: &[u16],
+    levels: &[u16],
+    order: &[u16],
+    table: &mut [u16],
+)
+    requires { ⌜ (storeGood cordLimit (now store) n ≡ true) × TablesOf (now store) n (now ids) (now index) × (n ≤ length (now index)) ⌝ }
+    requires { ⌜ ParentTable (now store) n (now ids) (now index) (now parents) × (length (now parents) ≡ 768) × (length (now levels) ≡ n) × Fixed (now parents) (now levels) ⌝ }
+    requires { ⌜ (now order ≡ ranked (now levels) (take n (now index)) 256) × (length (now table) ≡ n) ⌝ }
+    ensures { λ _. ⌜ Judged (now (store .entry)) n (now (table .exit)) ⌝ }
+{
+    let mut rows = [0u64; 1024];
+    ancestry::ancestors(parents, order, &mut rows);
+    let mut presented = [0u16; 256];
+    let mut targets = [0u16; 256];
+    let mut sound = [0u8; 256];
+    authority::authorize(
+        store,
+        n,
+        ids,
+        index,
+        parents,
+        levels,
+        order,
+        &rows,
+        &mut presented,
+        &mut targets,
+        &mut sound,
+    );
+    let places = &index[..n as usize];
+    judge(places, levels, &presented, &targets, &sound, &rows, table);
 }

@@ -3,7 +3,7 @@ use mathlib.Core.Path.{_≡_, sym, ap, _∙_}
 use mathlib.Core.Bool.{true, false}
 use lib.ListN.{getD}
 use Rattle.tables.specs.Bits.{bitAt}
-use Rattle.verdicts.specs.Effects.{flag}
+use Rattle.authority.specs.Sound.{bit}
 use Rattle.verdicts.proofs.Laws.{narrowed-kept, narrowed-void}
 use borrow.Author.Needs.{needs}
 use Rattle.verdicts.proofs.effect.Statement.{statement}
@@ -38,7 +38,7 @@ returns c =
     let a = n .before .before .before .before .before .args in
     let kept : bitAt (a .keep .now) (getD (a .presented .now) (a .e) 0) (a .e) ≡ true =
     ap (λ (g : ℕ). bitAt (a .keep .now) g (a .e)) (sym (n .entry .ensures)) ∙ sym (h .has .ensures) ∙ t .if1 .taken in (
-      sym (ap flag kept),
+      sym (ap bit kept),
       narrowed-kept (a .presented .now) (a .targets .now) (a .rows .now) (a .keep .now) (a .e) (n .entry .result) (n .entry .ensures)
           (r .row .result) (m .meet .last .0) (r .row .ensures) (m .meet .ensures) kept (s .strike .last .1 .1 .0) (s .strike .ensures),
     )
@@ -55,7 +55,7 @@ returns-2 c =
     let a = n .before .before .before .before .before .args in
     let out : bitAt (a .keep .now) (getD (a .presented .now) (a .e) 0) (a .e) ≡ false =
     ap (λ (g : ℕ). bitAt (a .keep .now) g (a .e)) (sym (n .entry .ensures)) ∙ sym (h .has .ensures) ∙ c .if1 .left in (
-      sym (ap flag out),
+      sym (ap bit out),
       narrowed-void (a .presented .now) (a .targets .now) (a .rows .now) (a .keep .now) (a .e) (n .entry .result) (n .entry .ensures)
           (r .row .result) (m .meet .last .0) (r .row .ensures) (m .meet .ensures) out,
     )

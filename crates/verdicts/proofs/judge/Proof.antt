@@ -77,7 +77,7 @@ returns c =
     let e = front _ _ _ _ _ _ (b .pre .0) (r .ensures) (r .kept .1 .1 .1 .0) (k .last .1 .1 .0) (k .result) (k .ensures .0) (k .ensures .1) in
     λ store ids index above t places.
     judged store ids _ index above _ _ _ _ _ (r .last .1 .1 .1 .0) _ _ _ t (r .ensures)
-    (e ∙ ap (λ (p : List ℕ). ranked (r .last .1 .1 .1 .0) p 256) places) (x .ensures) (v .ensures) (b .pre .0 .few)
+    (e ∙ ap (λ (p : List ℕ). ranked (r .last .1 .1 .1 .0) p 256) places) (x .ensures) (v .ensures)
 
 pub judge-spec : {M : Type 1} → statement M
 judge-spec =
