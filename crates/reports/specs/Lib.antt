@@ -1,3 +1,4 @@
 pub mod Reports
+pub mod ReportLaws
 pub mod Prepared
 pub mod Lifted

@@ -1,0 +1,6 @@
+pub mod Units
+pub mod Third
+pub mod Written
+pub mod Figures
+pub mod Trip
+pub mod Sums

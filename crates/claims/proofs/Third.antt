@@ -1,0 +1,33 @@
+-- The third demand.
+use native.Mathlib.Omega.{arith}
+use mathlib.Core.Path.{sym, _∙_}
+use mathlib.Core.List.{List, map}
+use Rattle.lists.specs.Bytes.{Bytes}
+use Rattle.model.specs.Store.{eventOf}
+use Rattle.model.specs.MapLaws.{row-by}
+use Rattle.calls.specs.Calls.{Fits, Lent}
+use Rattle.claims.specs.Told.{Tells}
+use Rattle.claims.specs.ThirdDemand.{Equal, leaves, ThirdDemand}
+use Rattle.claims.proofs.Units.{ids-distinct, unit-tells}
+
+-- two units that tell one set
+both-tell : {s : List Bytes} (m n : Lent) → Tells s m → Tells s n → Equal m n
+both-tell m n a b =
+    record {
+      same-order = λ out. a .order-told out ∙ sym (b .order-told out);
+      same-verdicts = λ id long. a .verdict-told id long ∙ sym (b .verdict-told id long);
+      same-map = λ out. a .map-told out ∙ sym (b .map-told out);
+      same-written = λ out. a .written-told out ∙ sym (b .written-told out);
+    }
+
+pub third-demand : ThirdDemand
+third-demand creator s u w h =
+    let fits : Fits s = record { at-most = omega (arith, h .at-most); distinct = h .distinct } in
+    let one = unit-tells creator s fits u (h .first) in
+    let two = unit-tells creator s fits w (h .second) in
+    record {
+      equal = both-tell (leaves creator u) (leaves creator w) one two;
+      first-tells = one;
+      second-tells = two;
+      each-cord = row-by (map eventOf s) (ids-distinct s (h .distinct));
+    }

@@ -1,0 +1,4 @@
+pub mod Told
+pub mod ThirdDemand
+pub mod RoundTrip
+pub mod Sums

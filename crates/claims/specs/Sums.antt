@@ -1,0 +1,40 @@
+-- The sums of document 01, and what check 2 passes.
+use Prim.Native.Nat.{_+_}
+use mathlib.Core.Path.{_≡_}
+use mathlib.Core.Bool.{true}
+use mathlib.Core.List.{List}
+use lib.ListN.{length}
+use Rattle.lists.specs.Bytes.{Bytes}
+use Rattle.cords.specs.Cords.{cordLimit}
+use Rattle.event.specs.Answers.{value}
+use Rattle.model.specs.Bundle.{countIn}
+use Rattle.model.specs.Store.{storeGood}
+use Rattle.takes.specs.declared.Tally.{Tally}
+use Rattle.takes.specs.Takes.{bundleOf}
+use Rattle.calls.specs.Calls.{Call, Lent}
+use Rattle.calls.specs.CallLaws.{LeftBy}
+use Rattle.reports.specs.declared.Figures.{Figures}
+use Rattle.reports.specs.Reports.{mapOf}
+
+-- "New + repeats + refused of one bundle = its count."
+abbrev pub FiguresAddUp : Type 0
+FiguresAddUp =
+    (m : Lent) (b : Bytes) (t : Tally) → bundleOf cordLimit (m .store) (m .count) b .answer ≡ value t
+    → t .new + t .repeats + t .refused ≡ countIn b
+
+-- "Joins run, the number of joins that the machine ran, = links standing + ended." The map has one row a link.
+abbrev pub JoinsAddUp : Type 0
+JoinsAddUp =
+    (m : Lent) (out : Bytes) (f : Figures) → mapOf cordLimit (m .store) (m .count) out .answer ≡ value f
+    → f .joins ≡ f .rows + f .ended
+
+-- check 2 passes a store exactly where its held places and its count are those that a list of calls leaves: any buffer of the
+-- right size can be started and given calls that leave them, and whatever was left so passes
+pub record ReachedExactly (m : Lent) : Type 0 where
+  pub reached : storeGood cordLimit (m .store) (m .count) ≡ true → (buffer : Bytes) → length buffer ≡ 49152
+      → (creator : Bytes) × (calls : List Call) × LeftBy cordLimit m buffer creator calls
+  pub passes : (buffer creator : Bytes) (calls : List Call) → LeftBy cordLimit m buffer creator calls
+      → storeGood cordLimit (m .store) (m .count) ≡ true
+
+abbrev pub Check2Exact : Type 0
+Check2Exact = (m : Lent) → length (m .store) ≡ 49152 → ReachedExactly m

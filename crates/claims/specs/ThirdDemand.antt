@@ -1,0 +1,71 @@
+-- The third demand: "Two units started with one create event and given any two lists of calls (takes and bundles of any bytes)
+-- whose counted events make the same set, at most 256, no two sharing an id: equal order, verdicts, map and write-out, and those
+-- are what document 01 defines from the set. Each cord's join is effective, under a line of grants back to the creator on which
+-- rights never grow, and every effective revoke on that line has the join among its ancestors."
+use Prim.Native.Nat.{_≤_}
+use mathlib.Core.Path.{_≡_}
+use mathlib.Core.List.{List, _∷_, map, List·Memᴰ}
+use lib.ListN.{length}
+use Rattle.lists.specs.Bytes.{Bytes}
+use Rattle.lists.specs.Tests.{SameMembers}
+use Rattle.lists.specs.Sorting.{Distinct}
+use Rattle.sha256.specs.Sha256.{sha256}
+use Rattle.cords.specs.Cords.{cordLimit}
+use Rattle.event.specs.Answers.{value}
+use Rattle.event.specs.declared.Cord.{Cord}
+use Rattle.model.specs.Store.{eventOf}
+use Rattle.model.specs.Map.{mapRows}
+use Rattle.model.specs.MapLaws.{RowBy}
+use Rattle.takes.specs.Takes.{stored, startOf}
+use Rattle.calls.specs.Calls.{Call, Lent, countedEvents, started, afterCalls}
+use Rattle.reports.specs.Reports.{orderOf, mapOf, writtenOf, verdictOf}
+use Rattle.claims.specs.Told.{setView, Tells}
+
+-- what a unit is given: the buffer that it is started with, of any bytes, and its calls
+pub record Given : Type 0 where
+  pub buffer : Bytes
+  pub calls : List Call
+
+-- "the four calls are lent what it left": the store and the count after the start and the calls
+abbrev pub leaves : Bytes → Given → Lent
+leaves creator u = afterCalls cordLimit (started (u .buffer) creator) (u .calls)
+
+-- "The set is the creator and every event whose offer passes 1 and 3 to 6.": defined from the creator's bytes and the offered ones
+abbrev pub counts : Bytes → Given → List Bytes
+counts creator u = creator ∷ countedEvents cordLimit creator (u .calls)
+
+-- the start answered "stored", and the counted events make the set `s`
+pub record Makes (creator : Bytes) (s : List Bytes) (u : Given) : Type 0 where
+  pub starts : startOf (u .buffer) creator .answer ≡ value stored
+  pub same-set : SameMembers s (counts creator u)
+
+-- all the premises. `s` lists the set, no two members with one id; counted events may come repeatedly. Nothing is said of the
+-- members' length or fields, nor of SHA-256.
+pub record Premises (creator : Bytes) (s : List Bytes) (u w : Given) : Type 0 where
+  -- "at most 256, no two sharing an id"
+  pub at-most : length s ≤ 256
+  pub distinct : Distinct sha256 s
+  -- "Two units started with one create event .. whose counted events make the same set"
+  pub first : Makes creator s u
+  pub second : Makes creator s w
+
+-- "equal order, verdicts, map and write-out"
+pub record Equal (m n : Lent) : Type 0 where
+  pub same-order : (out : Bytes) → orderOf cordLimit (m .store) (m .count) out ≡ orderOf cordLimit (n .store) (n .count) out
+  pub same-verdicts : (id : Bytes) → length id ≡ 32
+      → verdictOf cordLimit (m .store) (m .count) id ≡ verdictOf cordLimit (n .store) (n .count) id
+  pub same-map : (out : Bytes) → mapOf cordLimit (m .store) (m .count) out ≡ mapOf cordLimit (n .store) (n .count) out
+  pub same-written : (out : Bytes) → writtenOf cordLimit (m .store) (m .count) out ≡ writtenOf cordLimit (n .store) (n .count) out
+
+-- the conclusion, for every output and every asked id
+pub record Agree (creator : Bytes) (s : List Bytes) (u w : Given) : Type 0 where
+  pub equal : Equal (leaves creator u) (leaves creator w)
+  -- "and those are what document 01 defines from the set"
+  pub first-tells : Tells s (leaves creator u)
+  pub second-tells : Tells s (leaves creator w)
+  -- "Each cord's join is effective, under a line of grants back to the creator on which rights never grow, and every effective
+  -- revoke on that line has the join among its ancestors.": `RowBy`, of each row of the map
+  pub each-cord : (c : Cord) → List·Memᴰ c (mapRows (setView s)) → RowBy (map eventOf s) c
+
+abbrev pub ThirdDemand : Type 0
+ThirdDemand = (creator : Bytes) (s : List Bytes) (u w : Given) → Premises creator s u w → Agree creator s u w

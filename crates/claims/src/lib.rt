@@ -1,0 +1,39 @@
+// Claims about whole lists of calls, over the definitions that the code's contracts name. Each function does nothing: its contract
+// is the claim, so that the check lists it. The statements stand in specs/, their proofs in proofs/. Assumes nothing.
+ghost use mathlib.Core.Path.{_≡_};
+ghost use mathlib.Core.Bool.{true};
+ghost use Rattle.lists.specs.Tests.{allOf};
+ghost use Rattle.model.specs.Examples.{checks};
+ghost use Rattle.claims.specs.ThirdDemand.{ThirdDemand};
+ghost use Rattle.claims.specs.RoundTrip.{RoundTrip};
+ghost use Rattle.claims.specs.Sums.{FiguresAddUp, JoinsAddUp, Check2Exact};
+
+// Two units, one create event, two lists of calls whose counted events make one set: equal answers, defined from the set.
+pub fn third_demand()
+    ensures { λ _. ⌜ ThirdDemand ⌝ }
+{}
+
+// A written bundle in a fresh unit gives the same events and, written again, the same bytes.
+pub fn round_trip()
+    ensures { λ _. ⌜ RoundTrip ⌝ }
+{}
+
+// New + repeats + refused of a bundle = its count.
+pub fn figures_add_up()
+    ensures { λ _. ⌜ FiguresAddUp ⌝ }
+{}
+
+// Joins run = links standing + ended.
+pub fn joins_add_up()
+    ensures { λ _. ⌜ JoinsAddUp ⌝ }
+{}
+
+// Check 2 passes what lists of calls leave, and nothing else.
+pub fn check_2_exact()
+    ensures { λ _. ⌜ Check2Exact ⌝ }
+{}
+
+// The drawn examples 1 to 9, in one list.
+pub fn examples()
+    ensures { λ _. ⌜ allOf (λ passed. passed) checks ≡ true ⌝ }
+{}
