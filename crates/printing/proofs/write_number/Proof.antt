@@ -1,0 +1,49 @@
+use native.Mathlib.Omega.{arith}
+use Rattle.printing.proofs.Laws.{number-written}
+use borrow.Author.Needs.{needs}
+use Rattle.printing.proofs.write_number.Statement.{statement}
+use Rattle.printing.proofs.write_number.Tie as tie
+
+five-digits-requires : tie.Need-five-digits-requires
+five-digits-requires c κs = search needs
+
+leading-zeros-requires : tie.Need-leading-zeros-requires
+leading-zeros-requires c κs = search needs
+
+slice-aggregate-part : tie.Need-slice-aggregate-part
+slice-aggregate-part c = search needs
+
+part-requires : tie.Need-part-requires
+part-requires c κs = search needs
+
+paste-requires : tie.Need-paste-requires
+paste-requires c κs = search needs
+
+sub-result : tie.Need-sub-result
+sub-result c = search needs
+
+add-result : tie.Need-add-result
+add-result c = search needs
+
+same-length : tie.Need-same-length
+same-length c = search needs
+
+returns : tie.Need-returns
+returns c =
+    let a = c .before .before .before .before .before .before .before .before .before .args in
+    number-written (a .out .now) (c .before .before .paste .last .0) (c .before .before .before .before .before .before .before .five-digits .result) (a .at) (a .n) (c .before .before .before .before .before .before .leading-zeros .result)
+    (omega arith) (cc) (cc) (cc)
+
+pub write-number-spec : {M : Type 1} → statement M
+write-number-spec =
+    tie.close
+    (tie.spec
+    five-digits-requires
+    leading-zeros-requires
+    slice-aggregate-part
+    part-requires
+    paste-requires
+    sub-result
+    add-result
+    same-length
+    returns)

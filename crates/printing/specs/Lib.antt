@@ -1,0 +1,5 @@
+pub mod Text
+pub mod Steps
+pub mod TextLaws
+pub mod RowLaws
+pub mod Examples

@@ -1,0 +1,129 @@
+-- The map's rows of a store that passes check 2 have numbers that fit the bytes of a row.
+use Prim.Native.Nat.{ℕ, zero, suc, _+_, _*_, _≤_, _<_, min}
+use native.Mathlib.Omega.{arith}
+use mathlib.Core.Path.{_≡_, refl, sym, ap, _∙_, subst}
+use mathlib.Core.Logic.{⊎-elim}
+use mathlib.Core.Bool.{Bool, true, false, not, _&&_, _||_}
+use mathlib.Core.Option.{none}
+use mathlib.Core.List.{List, [], _∷_, List·Memᴰ, List·Memᴰ·cases-cons, Memᴰ·of-map}
+use lib.Dec.{eqb, leb, ltb}
+use lib.ListN.{length, getD, drop}
+use borrow.Author.Tests.{eqb-true, ltb-true, leb-true}
+use Rattle.lists.specs.Cases.{byBool, clash, and→}
+use Rattle.lists.specs.Bytes.{Bytes, sameBytes}
+use Rattle.lists.specs.Tests.{allOf}
+use Rattle.octets.specs.Octets.{byteAt, be16, part}
+use Rattle.cords.specs.Cords.{family, grade, limits, entryOf, cordLimit}
+use Rattle.event.specs.declared.Cord.{Cord}
+use Rattle.event.specs.declared.Body.{Body}
+use Rattle.event.specs.declared.Body.the-variants.{Create as create, Grant as grant, Revoke as revoke, Join as join, Unplug as unplug}
+use Rattle.event.specs.Fields.{kindOf, roomOf, portsGood, fieldsGood}
+use Rattle.event.specs.Contents.{portA, portB, kindA, kindB, cordAt, bodyOf}
+use Rattle.event.specs.Checks.{cordGood, offerTests, refusal}
+use Rattle.event.specs.CheckLaws.{passed→, row, passes→}
+use Rattle.model.specs.Events.{Event}
+use Rattle.model.specs.Store.{eventOf, places, heldIn, creatorGood, storeGood}
+use Rattle.model.specs.StoreLaws.{checked→, checked-held, places-first, creator→, later→}
+use Rattle.model.specs.Heights.{view}
+use Rattle.model.specs.Map.{mapRows}
+use Rattle.model.specs.MapLaws.{row-by}
+use Rattle.model.specs.Packing.{held-set}
+use Rattle.printing.specs.TextLaws.{Fits}
+
+-- "Limits for grades 0 to 3": none is above 10,000
+most : (m : ℕ) (l : List ℕ) → allOf (λ x. leb x m) l ≡ true → (i : ℕ) → getD l i 0 ≤ m
+most m [] t i = omega arith
+most m (x ∷ xs) t zero = leb-true x m (and→ (leb x m) (allOf (λ y. leb y m) xs) t .0)
+most m (x ∷ xs) t (suc i) = most m xs (and→ (leb x m) (allOf (λ y. leb y m) xs) t .1) i
+
+limit-most : (a b : ℕ) → cordLimit a b ≤ 10000
+unfolding cordLimit entryOf
+limit-most a b =
+    byBool (ltb a 16 && ltb b 16)
+    (λ t. rw t (byBool (eqb (family a) (family b))
+    (λ u. rw u (most 10000 limits refl (family a * 4 + min (grade a) (grade b)))) (λ f. rw f (omega arith))))
+    (λ f. rw f (omega arith))
+
+-- the cord of an event's bytes
+abbrev cordIn : Bytes → Cord
+cordIn x = cordAt (be16 x 8) (be16 x 10) (byteAt x 5) (byteAt x 6) (be16 x 12)
+
+abbrev isJoin : Body → Bool
+isJoin create = false
+isJoin (grant g) = false
+isJoin revoke = false
+isJoin (join c) = true
+isJoin (unplug a) = false
+
+abbrev joined : Cord → Body → Cord
+joined d create = d
+joined d (grant g) = d
+joined d revoke = d
+joined d (join c) = c
+joined d (unplug a) = d
+
+other-kind : (x : Bytes) → eqb (kindOf x) 3 ≡ false → isJoin (bodyOf x) ≡ false
+unfolding bodyOf
+other-kind x f =
+    byBool (eqb (kindOf x) 0) (λ a. rw a)
+    (λ a. rw a (byBool (eqb (kindOf x) 1) (λ b. rw b) (λ b. rw b (byBool (eqb (kindOf x) 2) (λ c. rw c) (λ c. rw (c, f))))))
+
+join-kind : (x : Bytes) (c : Cord) → bodyOf x ≡ join c → kindOf x ≡ 3
+join-kind x c e =
+    byBool (eqb (kindOf x) 3) (λ t. eqb-true (kindOf x) 3 t) (λ f. clash (isJoin (bodyOf x)) (ap isJoin e) (other-kind x f))
+
+join-cord : (x : Bytes) (c : Cord) → bodyOf x ≡ join c → cordIn x ≡ c
+unfolding bodyOf
+join-cord x c e = let q : joined c (bodyOf x) ≡ c = ap (joined c) e in rw (join-kind x c e) at q
+
+join-ports : (x : Bytes) → fieldsGood x ≡ true → kindOf x ≡ 3 → (be16 x 8 < be16 x 10) × (be16 x 10 ≤ 1023)
+unfolding portsGood
+join-ports x f k =
+    let r : (ltb (be16 x 8) (be16 x 10) && leb (be16 x 10) 1023) ≡ true = rw k at (row x f 7 (omega arith)) in
+    let h = and→ (ltb (be16 x 8) (be16 x 10)) (leb (be16 x 10) 1023) r in
+    (ltb-true (be16 x 8) (be16 x 10) (h .0), leb-true (be16 x 10) 1023 (h .1))
+
+-- an offer that passes, passes check 6
+passes-cord : (entry : ℕ → ℕ → ℕ) (creator e : Bytes) → refusal entry creator e ≡ none → cordGood entry (bodyOf e) ≡ true
+unfolding refusal
+passes-cord entry creator e h =
+    let tests = offerTests entry creator e in
+    let long = passed→ 1 (eqb (length e) 192) (drop 1 tests) h in
+    let fields = passed→ 3 (fieldsGood e) (drop 2 tests) (long .1) in
+    let room = passed→ 4 (sameBytes (roomOf e) (roomOf creator)) (drop 3 tests) (fields .1) in
+    let create = passed→ 5 (not (eqb (kindOf e) 0) || sameBytes e creator) (drop 4 tests) (room .1) in
+    passed→ 6 (cordGood entry (bodyOf e)) [] (create .1) .0
+
+join-fits : (creator x : Bytes) (c : Cord) → refusal cordLimit creator x ≡ none → bodyOf x ≡ join c → Fits c
+unfolding cordGood
+join-fits creator x c r e =
+    let cord = join-cord x c e in
+    let ports = join-ports x (passes→ cordLimit creator x r .fields) (join-kind x c e) in
+    let short : leb (c .metres) (cordLimit (kindA c) (kindB c)) ≡ true = rw e at (passes-cord cordLimit creator x r) in
+    let a : be16 x 8 ≡ portA c = ap (λ (y : Cord). portA y) cord in
+    let b : be16 x 10 ≡ portB c = ap (λ (y : Cord). portB y) cord in
+    record {
+      fits-a = omega (arith, ports .0, ports .1);
+      fits-b = omega (arith, ports .1);
+      fits-metres = omega (arith, leb-true (c .metres) (cordLimit (kindA c) (kindB c)) short, limit-most (kindA c) (kindB c));
+    }
+
+creator-joins : (x : Bytes) (c : Cord) → creatorGood x ≡ true → bodyOf x ≡ join c → ⊥
+creator-joins x c g e =
+    let a = eqb-true (kindOf x) 0 (creator→ x g .0) in
+    let b = join-kind x c e in
+    omega arith
+
+pub rows-fit : (store : Bytes) (count : ℕ) → storeGood cordLimit store count ≡ true
+    → (c : Cord) → List·Memᴰ c (mapRows (view (heldIn store count))) → Fits c
+unfolding heldIn eventOf
+rows-fit store count t c m =
+    let checked = checked→ cordLimit store count t in
+    let held = checked-held cordLimit store count checked in
+    let r = row-by (heldIn store count) (held-set cordLimit store count t .1 .distinct) c m in
+    let w = Memᴰ·of-map eventOf (places store count) (r .held) in
+    let e : bodyOf (w .0) ≡ join c = ap (λ (y : Event). y .body) (w .2) ∙ r .joins in
+    ⊎-elim
+    (λ q. absurd (creator-joins (part store 0 192) c (held .creator-good) (subst (λ (y : Bytes). bodyOf y ≡ join c) q e)))
+    (λ n. join-fits (part store 0 192) (w .0) c (later→ cordLimit (part store 0 192) (w .0) (held .others-good (w .0) n) .1) e)
+    (List·Memᴰ·cases-cons (subst (List·Memᴰ (w .0)) (places-first store count (checked .at-least)) (w .1)))

@@ -1,0 +1,114 @@
+-- The text of the printing program, by document 01's example 12 and the sentences under it.
+use Prim.Native.Nat.{ℕ, zero, suc, _+_, _/_, _%_}
+use mathlib.Core.Bool.{cond}
+use mathlib.Core.List.{List, [], _∷_, _++_, map, flatten}
+use lib.Dec.{eqb, leb, ltb}
+use lib.ListN.{length}
+use Rattle.lists.specs.Bytes.{Bytes}
+use Rattle.lists.specs.Tests.{keep}
+use Rattle.lists.specs.Chunks.{chunks}
+use Rattle.octets.specs.Octets.{byteAt, be16}
+use Rattle.event.specs.declared.Cord.{Cord}
+use Rattle.event.specs.Contents.{portA, portB, kindA, kindB, cordAt}
+use Rattle.model.specs.Heights.{View}
+use Rattle.model.specs.Verdicts.{verdict}
+use Rattle.model.specs.Map.{mapRows}
+use Rattle.model.specs.Output.{overwritten}
+use Rattle.printing.specs.declared.Printed.{Printed}
+use Rattle.printing.specs.declared.Printed.the-variants.{Bytes as printed, Short as short}
+
+-- the last digit of a number, as a character ("0" is 48)
+abbrev pub lastDigit : ℕ → ℕ
+lastDigit n = 48 + n % 10
+
+-- "without leading zeros": at most f digits
+unfoldable pub decimalIn : ℕ → ℕ → Bytes
+decimalIn zero n = []
+decimalIn (suc f) n = cond (ltb n 10) (lastDigit n ∷ []) (decimalIn f (n / 10) ++ (lastDigit n ∷ []))
+
+-- n has fewer than n + 1 digits, or is 0: all of them (TextLaws.decimal-one and decimal-more say so without the bound)
+unfoldable pub decimal : ℕ → Bytes
+decimal n = decimalIn (suc n) n
+
+-- "in decimal, filled with zeros": the last k digits
+unfoldable pub digits : ℕ → ℕ → Bytes
+digits zero n = []
+digits (suc k) n = digits k (n / 10) ++ (lastDigit n ∷ [])
+
+-- "LINKS "
+abbrev pub links-word : Bytes
+links-word = 76 ∷ 73 ∷ 78 ∷ 75 ∷ 83 ∷ 32 ∷ []
+
+-- " WAITING "
+abbrev pub waiting-word : Bytes
+waiting-word = 32 ∷ 87 ∷ 65 ∷ 73 ∷ 84 ∷ 73 ∷ 78 ∷ 71 ∷ 32 ∷ []
+
+-- " UNSOUND "
+abbrev pub unsound-word : Bytes
+unsound-word = 32 ∷ 85 ∷ 78 ∷ 83 ∷ 79 ∷ 85 ∷ 78 ∷ 68 ∷ 32 ∷ []
+
+-- " VOID "
+abbrev pub void-word : Bytes
+void-word = 32 ∷ 86 ∷ 79 ∷ 73 ∷ 68 ∷ 32 ∷ []
+
+-- "REFUSED "
+abbrev pub refused-word : Bytes
+refused-word = 82 ∷ 69 ∷ 70 ∷ 85 ∷ 83 ∷ 69 ∷ 68 ∷ 32 ∷ []
+
+-- "Each line, the refusal's too, ends in a line feed."
+abbrev pub line-feed : Bytes
+line-feed = 10 ∷ []
+
+abbrev pub space : Bytes
+space = 32 ∷ []
+
+-- a word and its number
+unfoldable pub field : Bytes → ℕ → Bytes
+field word n = word ++ decimal n
+
+-- "a refusal writes "REFUSED " and the number"
+unfoldable pub refusalLine : ℕ → Bytes
+refusalLine n = field refused-word n ++ line-feed
+
+-- "The first line counts links and verdicts, without leading zeros"
+unfoldable pub headLine : ℕ → ℕ → ℕ → ℕ → Bytes
+headLine links waiting unsound void =
+    field links-word links ++ field waiting-word waiting ++ field unsound-word unsound ++ field void-word void ++ line-feed
+
+-- "then one line a map row, ports, kinds, metres, in decimal, filled with zeros to 4, 2 and 5 digits"
+unfoldable pub rowLine : Cord → Bytes
+rowLine c =
+    digits 4 (portA c) ++ space ++ digits 4 (portB c) ++ space ++ digits 2 (kindA c) ++ space ++ digits 2 (kindB c) ++ space
+    ++ digits 5 (c .metres) ++ line-feed
+
+-- the whole text: the numbers of waiting, unsound and void events, and the map's rows
+unfoldable pub textFrom : ℕ → ℕ → ℕ → List Cord → Bytes
+textFrom waiting unsound void rows = headLine (length rows) waiting unsound void ++ flatten (map rowLine rows)
+
+-- how many of some verdicts are k
+unfoldable pub howMany : ℕ → List ℕ → ℕ
+howMany k verdicts = length (keep (λ x. eqb x k) verdicts)
+
+-- the text of a set of events
+unfoldable pub roomText : View → Bytes
+roomText v =
+    let verdicts = map (λ e. verdict v (e .ident)) (v .byId) in
+    textFrom (howMany 0 verdicts) (howMany 1 verdicts) (howMany 2 verdicts) (mapRows v)
+
+-- the cord of a row of the map call (model's Rows.mapRow), and those of all rows
+unfoldable pub rowCord : Bytes → Cord
+rowCord x = cordAt (be16 x 0) (be16 x 2) (byteAt x 4) (byteAt x 5) (be16 x 6)
+
+unfoldable pub rowsIn : Bytes → List Cord
+rowsIn s = map rowCord (chunks 8 s (length s / 8))
+
+-- the text of the map call's rows and of one verdict an event
+unfoldable pub textOf : Bytes → List ℕ → Bytes
+textOf rows verdicts = textFrom (howMany 0 verdicts) (howMany 1 verdicts) (howMany 2 verdicts) (rowsIn rows)
+
+-- what is answered, and what stands in the output then: a text that does not fit is not begun
+unfoldable pub answerOf : Bytes → Bytes → Printed
+answerOf text out = cond (leb (length text) (length out)) (printed (length text)) short
+
+unfoldable pub outputOf : Bytes → Bytes → Bytes
+outputOf text out = cond (leb (length text) (length out)) (overwritten text out) out
