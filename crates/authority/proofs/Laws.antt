@@ -1,17 +1,15 @@
 -- What the functions' answers come to, over plain values.
 use Prim.Native.Nat.{ℕ, zero, suc, _+_, _-_, _*_, _<_, _≤_}
-use native.Mathlib.Numerals.{add-one}
 use native.Mathlib.Omega.{arith}
 use mathlib.Core.Path.{_≡_, refl, sym, ap, _∙_}
 use mathlib.Core.Logic.{⊎-elim}
 use mathlib.Core.Bool.{Bool, true, false, not, _&&_, _||_}
 use mathlib.Core.Option.{none, some}
-use mathlib.Core.List.{List, [], _∷_, _++_, List·Memᴰ, List·Memᴰ·head, List·Memᴰ·not-nil, List·Memᴰ·eq-of-singleton, List·Memᴰ·append-cases, Memᴰ·append-left, Memᴰ·append-right}
-use lib.Dec.{eqb, ltb}
-use lib.ListN.{length, getD, take, set, length-set, List·getD-eq-default}
-use lib.Seq.{getD-set-same, getD-set-other, take-suc, take-all}
-use borrow.Author.Tests.{eqb-true, eqb-false, eq-eqb, ne-eqb, ltb-true, ltb-false, lt-ltb, le-ltb}
-use Rattle.lists.specs.Cases.{byBool}
+use mathlib.Core.List.{List, List·Memᴰ, List·Memᴰ·not-nil}
+use lib.Dec.{eqb}
+use lib.ListN.{length, getD, take, set, length-set}
+use lib.Seq.{getD-set-same, getD-set-other, take-all}
+use borrow.Author.Tests.{eq-eqb, ne-eqb, lt-ltb, le-ltb}
 use Rattle.lists.specs.Bytes.{Bytes}
 use Rattle.lists.specs.Tests.{anyOf}
 use Rattle.lists.specs.Sorting.{mem-getD}
@@ -22,26 +20,13 @@ use Rattle.event.specs.Contents.{bodyOf}
 use Rattle.model.specs.Verdicts.{givenBy, has, within}
 use Rattle.history.specs.Parents.{eventAt, placeBy}
 use Rattle.history.specs.Order.{Ordered}
-use Rattle.authority.specs.EntryLaws.{and-three}
+use Rattle.tables.specs.Filling.{more→, more←, last}
 use Rattle.authority.specs.KindLaws.{Kind, creating, granting, revoking, joining, unplugging, kind-of}
+use Rattle.authority.specs.AuthorityLaws.{and-three}
 use Rattle.authority.specs.Lines.{ifAncestor, targetAt, lineFrom}
 use Rattle.authority.specs.Sound.{grantAt, givenIn, rightFor, permitsAt, targetSuitsAt, parentsSound, soundAt, bit, SoundTable}
 use Rattle.authority.specs.declared.Presented.{Presented}
 use Rattle.authority.specs.declared.Presented.the-variants.{Gives, Nothing}
-
--- ── tables filled from the front ────────────────────────────────────────────────────────────────────────────────────────
-
-pub table-more : (f : ℕ → ℕ) (T : List ℕ) (i v : ℕ) → i < length T → ((k : ℕ) → k < i → getD T k 0 ≡ f k) → v ≡ f i
-    → (k : ℕ) → k < i + 1 → getD (set T i v) k 0 ≡ f k
-table-more f T i v l h e k lk =
-    byBool (eqb k i)
-    (λ t. let q : k ≡ i = eqb-true k i t in rw q (getD-set-same T i v 0 l ∙ e))
-    (λ g. let ne : k ≡ i → ⊥ = eqb-false k i g in getD-set-other T i k v 0 ne ∙ h k (omega arith))
-
--- zeros as far as the table goes are zeros everywhere
-pub zeros-all : (T : List ℕ) → ((k : ℕ) → k < length T → getD T k 0 ≡ 0) → (k : ℕ) → getD T k 0 ≡ 0
-zeros-all T h k =
-    byBool (ltb k (length T)) (λ t. h k (ltb-true k (length T) t)) (λ f. List·getD-eq-default T 0 (ltb-false k (length T) f))
 
 -- ── the target of a revoke ──────────────────────────────────────────────────────────────────────────────────────────────
 
@@ -69,7 +54,7 @@ module _ (Q : List ℕ) (sought place : ℕ) where
   line-none left e = rw e
 
   -- p is what the place presents
-  module _ (p : ℕ) (presents : p ≡ getD Q place 256) where
+  module _ (p : ℕ) (presents : p ≡ getD Q place 0) where
     pub line-end : (left : ℕ) → (left ≡ 0 → ⊥) → 256 ≤ p → false ≡ anyOf (eqb sought) (lineFrom Q left place)
     unfolding lineFrom
     line-end zero ne h = absurd (ne refl)
@@ -118,7 +103,7 @@ module _ (store : Bytes) (p : ℕ) (low : p < 256) (x : Bytes) (event : x ≡ ev
 pub within-is : (f g : ℕ) (a b c d e h : Bool) → a ≡ has f 1 → b ≡ has g 1 → c ≡ has f 2 → d ≡ has g 2 → e ≡ has f 4 → h ≡ has g 4
     → ((not a || b) && (not c || d) && (not e || h)) ≡ within f g
 unfolding within
-within-is f g a b c d e h p q r s t u = rw (sym p, sym q, sym r, sym s, sym t, sym u) (sym (and-three (not a || b) (not c || d) (not e || h)))
+within-is f g a b c d e h p q r s t u = rw (sym p, sym q, sym r, sym s, sym t, sym u) (and-three (not a || b) (not c || d) (not e || h))
 
 pub permits-is : (x : Bytes) (g : Grant) (kind author rights right : ℕ) (a b : Bool) → kind ≡ byteAt x 0 → author ≡ byteAt x 1
     → rights ≡ byteAt x 3 → right ≡ rightFor kind → a ≡ has (g .rights) right → b ≡ within rights (g .rights)
@@ -134,12 +119,12 @@ module _ (store : Bytes) (T Q G : List ℕ) (k : ℕ) (x : Bytes) (event : x ≡
   suits-other ne = rw (sym event, ne-eqb (byteAt x 0) 2 ne)
 
   -- t is the target
-  module _ (e : byteAt x 0 ≡ 2) (t : ℕ) (names : t ≡ getD G k 256) where
+  module _ (e : byteAt x 0 ≡ 2) (t : ℕ) (names : t ≡ getD G k 0) where
     pub suits-none : 256 ≤ t → false ≡ targetSuitsAt store T Q G k
     unfolding targetSuitsAt
     suits-none h = rw (sym event, e, sym names, le-ltb t 256 h)
 
-    pub suits-line : (left sought : ℕ) → t < 256 → left ≡ getD T t 0 → sought ≡ getD Q k 256
+    pub suits-line : (left sought : ℕ) → t < 256 → left ≡ getD T t 0 → sought ≡ getD Q k 0
         → anyOf (eqb sought) (lineFrom Q left t) ≡ targetSuitsAt store T Q G k
     unfolding targetSuitsAt
     suits-line left sought h p q = rw (sym event, e, sym names, lt-ltb t 256 h, p, q)
@@ -157,8 +142,8 @@ module _ (store : Bytes) (P T Q G S : List ℕ) (k : ℕ) where
     sound-orphan f = rw (ne-eqb k 0 ne, f)
 
     -- p is the presented place, r what the event there gives
-    module _ (parents : parentsSound P S k ≡ true) (p : ℕ) (r : Presented) (presents : p ≡ getD Q k 256) (gives : givenIn r ≡ grantAt store p) where
-      presented : grantAt store (getD Q k 256) ≡ givenIn r
+    module _ (parents : parentsSound P S k ≡ true) (p : ℕ) (r : Presented) (presents : p ≡ getD Q k 0) (gives : givenIn r ≡ grantAt store p) where
+      presented : grantAt store (getD Q k 0) ≡ givenIn r
       presented = ap (grantAt store) (sym presents) ∙ sym gives
 
       pub sound-bare : r ≡ Nothing → 0 ≡ bit (soundAt store P T Q G S k)
@@ -216,17 +201,14 @@ module _ (store : Bytes) (P T Q G l : List ℕ) where
     new : List·Memᴰ (getD l i 0) (take i l) → ⊥
     new = ordered .once i inside
 
-    split : take (i + 1) l ≡ take i l ++ (getD l i 0 ∷ [])
-    split = rw (add-one i) (take-suc l i 0 inside)
+    abbrev earlier : (q : ℕ) → List·Memᴰ q (take i l) → List·Memᴰ q (take (i + 1) l)
+    earlier = more← l i inside
 
-    earlier : (q : ℕ) → List·Memᴰ q (take i l) → List·Memᴰ q (take (i + 1) l)
-    earlier q m = rw split (Memᴰ·append-left (getD l i 0 ∷ []) m)
-
-    here : List·Memᴰ (getD l i 0) (take (i + 1) l)
-    here = rw split (Memᴰ·append-right (take i l) (List·Memᴰ·head refl))
+    abbrev here : List·Memᴰ (getD l i 0) (take (i + 1) l)
+    here = last l i inside
 
     byPlace : {A : Type 0} (q : ℕ) → List·Memᴰ q (take (i + 1) l) → (List·Memᴰ q (take i l) → A) → (q ≡ getD l i 0 → A) → A
-    byPlace q m old last = ⊎-elim old (λ r. last (List·Memᴰ·eq-of-singleton r)) (List·Memᴰ·append-cases (take i l) (rw split at m))
+    byPlace q m old this = ⊎-elim old this (more→ l i inside q m)
 
     -- the parents of what is listed so far stand before the place
     parent-before : (q : ℕ) → List·Memᴰ q (take (i + 1) l) → (j : ℕ) → j < 3 → getD P (q * 3 + j) 0 < 256

@@ -3,12 +3,11 @@ use Prim.Native.Nat.{ℕ, zero, suc, _+_, _*_, _<_, _≤_}
 use native.Mathlib.Omega.{arith}
 use mathlib.Core.Path.{_≡_, refl, sym, ap, ap₂, _∙_}
 use mathlib.Core.Logic.{⊎-elim}
-use mathlib.Core.Bool.{Bool, true, false, _&&_}
+use mathlib.Core.Bool.{Bool, true, false, _&&_, and-true, and-false, and-assoc}
 use mathlib.Core.Option.{Option, none, some}
 use mathlib.Core.List.{List, List·Memᴰ, List·Memᴰ·head, List·Memᴰ·tail}
 use lib.Dec.{eqb}
 use lib.ListN.{getD, take, drop, List·getD-eq-default}
-use lib.Seq.{drop-drop}
 use borrow.Author.Tests.{eqb-true, eqb-false, ne-eqb, lt-ltb}
 use Rattle.lists.specs.Cases.{maybe, byBool, clash}
 use Rattle.lists.specs.Bytes.{Bytes}
@@ -26,30 +25,16 @@ use Rattle.model.specs.Packing.{kind-other}
 use Rattle.store.specs.declared.Slot.the-variants.{At, Gap}
 use Rattle.store.specs.Tables.{slotIn}
 use Rattle.history.specs.Parents.{eventAt, parentId, placeBy}
-use Rattle.history.specs.LevelLaws.{bySlot, Later, creates, later, entry-some, entry-none, levels-heights}
-use Rattle.ancestry.specs.Ancestors.{idOf}
+use Rattle.history.specs.LevelLaws.{level-from, bySlot, second-parent, third-parent, Later, creates, later, entry-some, entry-none, first-some, levels-heights}
+use Rattle.history.specs.Placed.{heldAt, idOf}
 use Rattle.authority.specs.Lines.{targetAt, Authority}
-use Rattle.authority.specs.Sound.{grantAt, parentSound, parentsSound, permitsAt, targetSuitsAt, soundAt, bit, SoundTable}
-use Rattle.authority.specs.EntryLaws.{any-default, and-three}
-use Rattle.authority.specs.PlaceLaws.{level-some, Tables, AncestorAt, NoAncestor, Named, Unnamed, few, found, slot-place, level-is, settled-at, level-of, presented-place, lines, target-place, target-is}
+use Rattle.authority.specs.Sound.{grantAt, parentSound, parentsSound, permitsAt, targetSuitsAt, soundAt, bit-test, SoundTable}
+use Rattle.authority.specs.PlaceLaws.{Tables, AncestorAt, NoAncestor, Named, Unnamed, few, found, place-at, level-is, settled-at, level-of, presented-place, lines, target-place, target-is}
 use Rattle.authority.specs.KindLaws.{revoke-kind, permits-kind}
 
--- the three parents' tests, where there are one or two
-and-one : (a : Bool) → (a && true) ≡ (a && true && true)
-and-one true = refl
-and-one false = refl
-
-and-two : (a b : Bool) → (a && (b && true)) ≡ (a && b && true)
-and-two true b = refl
-and-two false b = refl
-
-and-false : (a b : Bool) → (a && false && b) ≡ false
-and-false true b = refl
-and-false false b = refl
-
-bit-test : (b : Bool) → eqb (bit b) 1 ≡ b
-bit-test true = refl
-bit-test false = refl
+-- three tests, as a list's tests are put together
+pub and-three : (a b c : Bool) → (a && b && c) ≡ (a && (b && (c && true)))
+and-three a b c = rw (and-true c) (and-assoc a b c)
 
 module _ {entry : ℕ → ℕ → ℕ} {store : Bytes} {n : ℕ} {ids : Bytes} {index P T M Q G : List ℕ} (tables : Tables entry store n ids index P T M Q G)
     (S l : List ℕ) (sounding : SoundTable store P T Q G l S) (all-in : (k : ℕ) → k < n → (getD T k 0 ≡ 0 → ⊥) → List·Memᴰ k l)
@@ -59,9 +44,6 @@ module _ {entry : ℕ → ℕ → ℕ} {store : Bytes} {n : ℕ} {ids : Bytes} {
 
   abbrev seen : View
   seen = view (heldIn store n)
-
-  abbrev eventIn : ℕ → Event
-  eventIn k = eventOf (eventAt store k)
 
   abbrev Settled : ℕ → Type 0
   Settled k = getD T k 0 ≡ 0 → ⊥
@@ -75,25 +57,25 @@ module _ {entry : ℕ → ℕ → ℕ} {store : Bytes} {n : ℕ} {ids : Bytes} {
 
   -- a settled place, all below which are right
   module _ (k : ℕ) (h : k < n) (s : Settled k) (not-first : k ≡ 0 → ⊥) (right : (q : ℕ) → q < n → getD T q 0 < getD T k 0 → Right q) where
-    no-create : isCreate (eventIn k) ≡ false
+    no-create : isCreate (heldAt store k) ≡ false
     no-create = kind-other (eventAt store k) (later-at k h not-first .no-create)
 
     -- a parent is settled and has a lower level: the table is right about it
-    parent-is : (a : Id) → List·Memᴰ a (eventIn k .parents) → parentSound S (placeBy n ids index a) ≡ sound seen a
+    parent-is : (a : Id) → List·Memᴰ a (heldAt store k .parents) → parentSound S (placeBy n ids index a) ≡ sound seen a
     parent-is a m = bySlot (slotIn ids 0 (take n index) a) at gone
       where
         level : (getD T (placeBy n ids index a) 0 ≡ 0 → ⊥) × (getD T (placeBy n ids index a) 0 < getD T k 0)
         level =
             let w = settled→ seen (idOf store k) (settled-at tables k h s) in
-            let u = height→ held (idOf store k) (eventIn k) (w .0) (found tables k h) no-create (w .1) .each a m in
+            let u = height→ held (idOf store k) (heldAt store k) (w .0) (found tables k h) no-create (w .1) .each a m in
             let above = levels-heights entry store n (tables .good) ids index (tables .indexed) P (tables .parents) T (tables .long) (tables .fixed) a in
-            let below = level-some (getD T (placeBy n ids index a) 0) (u .0) (above ∙ u .1) in
-            let here = level-some (getD T k 0) (w .0) (level-is tables k h ∙ w .1) in
+            let below = level-from (getD T (placeBy n ids index a) 0) (u .0) (above ∙ u .1) in
+            let here = level-from (getD T k 0) (w .0) (level-is tables k h ∙ w .1) in
             ((λ z. omega (arith, below, z)), omega (arith, below, here, u .2))
 
         at : (p : ℕ) → slotIn ids 0 (take n index) a ≡ At p → parentSound S (placeBy n ids index a) ≡ sound seen a
         at p e =
-            let place = slot-place tables a p e in
+            let place = place-at tables a p e in
             rw (e, ne-eqb p 65535 (λ z. omega (arith, few tables, place .0, z))) (right p (place .0) (rw e at (level .1)) ∙ ap (sound seen) (place .1))
 
         gone : (g : ℕ) → slotIn ids 0 (take n index) a ≡ Gap g → parentSound S (placeBy n ids index a) ≡ sound seen a
@@ -107,9 +89,9 @@ module _ {entry : ℕ → ℕ → ℕ} {store : Bytes} {n : ℕ} {ids : Bytes} {
     place-none j = entry-none entry store n (tables .good) ids index (tables .indexed) P (tables .parents) T k j h
 
     place-first : 1 ≤ parentCount (eventAt store k) → getD P (k * 3) 0 ≡ placeBy n ids index (parentId (eventAt store k) 0)
-    place-first m = let e : k * 3 + 0 ≡ k * 3 = omega arith in rw e at (place-some 0 (omega arith) m)
+    place-first = first-some entry store n (tables .good) ids index (tables .indexed) P (tables .parents) T k h
 
-    parents-are : parentsSound P S k ≡ parentsSoundIn (sound seen) (eventIn k)
+    parents-are : parentsSound P S k ≡ parentsSoundIn (sound seen) (heldAt store k)
     unfolding parentsSound parentsSoundIn eventOf parentIds chunks
     parents-are = go (parentCount (eventAt store k)) refl parent-is
       where
@@ -119,12 +101,6 @@ module _ {entry : ℕ → ℕ → ℕ} {store : Bytes} {n : ℕ} {ids : Bytes} {
         Each : ℕ → Type 0
         Each c = (a : Id) → List·Memᴰ a (chunks 32 (drop 96 (eventAt store k)) c) → parentSound S (placeBy n ids index a) ≡ sound seen a
 
-        second-id : parentId (eventAt store k) 1 ≡ take 32 (drop 32 (drop 96 (eventAt store k)))
-        second-id = ap (take 32) (sym (drop-drop 32 96 (eventAt store k)))
-
-        third-id : parentId (eventAt store k) 2 ≡ take 32 (drop 32 (drop 32 (drop 96 (eventAt store k))))
-        third-id = ap (take 32) (sym (ap (drop 32) (drop-drop 32 96 (eventAt store k)) ∙ drop-drop 32 128 (eventAt store k)))
-
         go : (c : ℕ) → parentCount (eventAt store k) ≡ c → Each c
             → parentsSound P S k ≡ allOf (sound seen) (chunks 32 (drop 96 (eventAt store k)) c)
         go zero e each =
@@ -133,55 +109,55 @@ module _ {entry : ℕ → ℕ → ℕ} {store : Bytes} {n : ℕ} {ids : Bytes} {
         go (suc zero) e each =
             let one = each (id 0) (List·Memᴰ·head refl) in
             rw (place-first (omega arith), place-none 1 (omega arith) (omega arith), place-none 2 (omega arith) (omega arith), one)
-            (sym (and-one (sound seen (id 0))))
+            (and-true (sound seen (id 0) && true))
         go (suc (suc zero)) e each =
             let one = each (id 0) (List·Memᴰ·head refl) in
-            let two = each (id 1) (List·Memᴰ·tail (List·Memᴰ·head second-id)) in
-            rw (place-first (omega arith), place-some 1 (omega arith) (omega arith), place-none 2 (omega arith) (omega arith), one, two, sym second-id)
-            (sym (and-two (sound seen (id 0)) (sound seen (id 1))))
+            let two = each (id 1) (List·Memᴰ·tail (List·Memᴰ·head (sym (second-parent (eventAt store k))))) in
+            rw (place-first (omega arith), place-some 1 (omega arith) (omega arith), place-none 2 (omega arith) (omega arith), one, two, second-parent (eventAt store k))
+            (and-assoc (sound seen (id 0)) (sound seen (id 1)) true)
         go (suc (suc (suc zero))) e each =
             let one = each (id 0) (List·Memᴰ·head refl) in
-            let two = each (id 1) (List·Memᴰ·tail (List·Memᴰ·head second-id)) in
-            let three = each (id 2) (List·Memᴰ·tail (List·Memᴰ·tail (List·Memᴰ·head third-id))) in
-            rw (place-first (omega arith), place-some 1 (omega arith) (omega arith), place-some 2 (omega arith) (omega arith), one, two, three, sym second-id, sym third-id)
-            (sym (and-three (sound seen (id 0)) (sound seen (id 1)) (sound seen (id 2))))
+            let two = each (id 1) (List·Memᴰ·tail (List·Memᴰ·head (sym (second-parent (eventAt store k))))) in
+            let three = each (id 2) (List·Memᴰ·tail (List·Memᴰ·tail (List·Memᴰ·head (sym (third-parent (eventAt store k)))))) in
+            rw (place-first (omega arith), place-some 1 (omega arith) (omega arith), place-some 2 (omega arith) (omega arith), one, two, three, second-parent (eventAt store k), third-parent (eventAt store k))
+            (and-three (sound seen (id 0)) (sound seen (id 1)) (sound seen (id 2)))
         go (suc (suc (suc (suc c)))) e each =
             let z : ⊥ = omega (arith, later-at k h not-first .parents-to) in
             absurd z
 
     -- what is presented permits the event, where it is an ancestor; else nothing does
-    granted : AncestorAt store n k (eventIn k .presented) (getD Q k 256)
-        → maybe false (permitsAt (eventAt store k)) (grantAt store (getD Q k 256)) ≡ maybe false (permits (eventIn k)) (presentedGrant seen (eventIn k))
+    granted : AncestorAt store n k (heldAt store k .presented) (getD Q k 0)
+        → maybe false (permitsAt (eventAt store k)) (grantAt store (getD Q k 0)) ≡ maybe false (permits (heldAt store k)) (presentedGrant seen (heldAt store k))
     unfolding presentedGrant grantAt eventOf
-    granted w = rw (w .is-ancestor, event, lt-ltb (getD Q k 256) 256 (omega (arith, few tables, w .inside))) (go (givenBy (eventIn (getD Q k 256) .author) (eventIn (getD Q k 256) .body)))
+    granted w = rw (w .is-ancestor, event, lt-ltb (getD Q k 0) 256 (omega (arith, few tables, w .inside))) (go (givenBy (heldAt store (getD Q k 0) .author) (heldAt store (getD Q k 0) .body)))
       where
-        event : findIn held (eventIn k .presented) ≡ some (eventIn (getD Q k 256))
-        event = ap (findIn held) (sym (w .id-is)) ∙ found tables (getD Q k 256) (w .inside)
+        event : findIn held (heldAt store k .presented) ≡ some (heldAt store (getD Q k 0))
+        event = ap (findIn held) (sym (w .id-is)) ∙ found tables (getD Q k 0) (w .inside)
 
-        go : (o : Option Grant) → maybe false (permitsAt (eventAt store k)) o ≡ maybe false (permits (eventIn k)) o
+        go : (o : Option Grant) → maybe false (permitsAt (eventAt store k)) o ≡ maybe false (permits (heldAt store k)) o
         go none = refl
         go (some g) = sym (permits-kind (eventAt store k) (later-at k h not-first .no-create) g)
 
-    not-granted : NoAncestor store n k (eventIn k .presented) (getD Q k 256)
-        → (grantAt store (getD Q k 256) ≡ none) × (presentedGrant seen (eventIn k) ≡ none)
+    not-granted : NoAncestor store n k (heldAt store k .presented) (getD Q k 0)
+        → (grantAt store (getD Q k 0) ≡ none) × (presentedGrant seen (heldAt store k) ≡ none)
     unfolding presentedGrant grantAt
     not-granted w = (rw (w .no-place), rw (w .none-such))
 
     -- the conditions by places are the model's
-    conditions : (parentsSound P S k && maybe false (permitsAt (eventAt store k)) (grantAt store (getD Q k 256)) && targetSuitsAt store T Q G k)
-        ≡ (parentsSoundIn (sound seen) (eventIn k) && maybe false (permits (eventIn k)) (presentedGrant seen (eventIn k)) && targetSuits seen (eventIn k))
+    conditions : (parentsSound P S k && maybe false (permitsAt (eventAt store k)) (grantAt store (getD Q k 0)) && targetSuitsAt store T Q G k)
+        ≡ (parentsSoundIn (sound seen) (heldAt store k) && maybe false (permits (heldAt store k)) (presentedGrant seen (heldAt store k)) && targetSuits seen (heldAt store k))
     conditions =
         ⊎-elim
         (λ w. ap₂ _&&_ (ap₂ _&&_ parents-are (granted w)) (sym (target-is tables k h s w)))
         (λ w.
         let no = not-granted w in
-        rw (no .0, no .1) (and-false (parentsSound P S k) (targetSuitsAt store T Q G k) ∙ sym (and-false (parentsSoundIn (sound seen) (eventIn k)) (targetSuits seen (eventIn k)))))
+        rw (no .0, no .1, and-false (parentsSound P S k), and-false (parentsSoundIn (sound seen) (heldAt store k))))
         (presented-place tables k h s)
 
     other-row : soundAt store P T Q G S k ≡ sound seen (idOf store k)
     unfolding soundAt soundFrom
     other-row =
-        rw (ne-eqb k 0 not-first, sound-law held (idOf store k) (eventIn k) (found tables k h) (settled-at tables k h s), no-create)
+        rw (ne-eqb k 0 not-first, sound-law held (idOf store k) (heldAt store k) (found tables k h) (settled-at tables k h s), no-create)
         conditions
 
   row : (k : ℕ) → k < n → Settled k → ((q : ℕ) → q < n → getD T q 0 < getD T k 0 → Right q) → Right k
@@ -194,8 +170,8 @@ module _ {entry : ℕ → ℕ → ℕ} {store : Bytes} {n : ℕ} {ids : Bytes} {
       first : eqb k 0 ≡ true → soundAt store P T Q G S k ≡ sound seen (idOf store k)
       first t =
           let e : k ≡ 0 = eqb-true k 0 t in
-          let c : isCreate (eventIn k) ≡ true = rw e (creates entry store n (tables .good) ids index (tables .indexed)) in
-          rw (t, sound-creator held (idOf store k) (eventIn k) (found tables k h) c)
+          let c : isCreate (heldAt store k) ≡ true = rw e (creates entry store n (tables .good) ids index (tables .indexed)) in
+          rw (t, sound-creator held (idOf store k) (heldAt store k) (found tables k h) c)
 
   -- a sound event is settled
   sound-level : (k : ℕ) → k < n → sound seen (idOf store k) ≡ true → Settled k
@@ -221,34 +197,28 @@ module _ {entry : ℕ → ℕ → ℕ} {store : Bytes} {n : ℕ} {ids : Bytes} {
   unfolding eventOf
   presents-at k h not-first t = ⊎-elim at gone (presented-place tables k h (sound-level k h t))
     where
-      read : getD Q k 0 ≡ getD Q k 256
-      read = any-default Q k 0 256 (omega (arith, few tables, tables .presented-long))
+      at : AncestorAt store n k (heldAt store k .presented) (getD Q k 0) → (getD Q k 0 < n) × (presentedOf (eventAt store k) ≡ idOf store (getD Q k 0))
+      at w = (w .inside, sym (w .id-is))
 
-      at : AncestorAt store n k (eventIn k .presented) (getD Q k 256) → (getD Q k 0 < n) × (presentedOf (eventAt store k) ≡ idOf store (getD Q k 0))
-      at w = rw read (w .inside, sym (w .id-is))
-
-      gone : NoAncestor store n k (eventIn k .presented) (getD Q k 256) → (getD Q k 0 < n) × (presentedOf (eventAt store k) ≡ idOf store (getD Q k 0))
+      gone : NoAncestor store n k (heldAt store k .presented) (getD Q k 0) → (getD Q k 0 < n) × (presentedOf (eventAt store k) ≡ idOf store (getD Q k 0))
       gone w =
           let other = kind-other (eventAt store k) (later-at k h not-first .no-create) in
-          let c = sound→ held (idOf store k) (eventIn k) (found tables k h) other t in
-          clash (ancestor seen (idOf store k) (eventIn k .presented)) (c .presents-ancestor) (w .none-such)
+          let c = sound→ held (idOf store k) (heldAt store k) (found tables k h) other t in
+          clash (ancestor seen (idOf store k) (heldAt store k .presented)) (c .presents-ancestor) (w .none-such)
 
   names-at : (k : ℕ) → k < n → kindOf (eventAt store k) ≡ 2 → sound seen (idOf store k) ≡ true
       → (getD G k 0 < n) × (targetOf (eventAt store k) ≡ idOf store (getD G k 0))
   unfolding eventOf
   names-at k h e t = ⊎-elim at gone (target-place tables k h (sound-level k h t) e)
     where
-      read : getD G k 0 ≡ getD G k 256
-      read = any-default G k 0 256 (omega (arith, few tables, tables .targets-long))
+      at : Named store n k (getD G k 0) → (getD G k 0 < n) × (targetOf (eventAt store k) ≡ idOf store (getD G k 0))
+      at u = (u .named .inside, sym (u .named .id-is))
 
-      at : Named store n k (getD G k 256) → (getD G k 0 < n) × (targetOf (eventAt store k) ≡ idOf store (getD G k 0))
-      at u = rw read (u .named .inside, sym (u .named .id-is))
-
-      gone : Unnamed store n k (getD G k 256) → (getD G k 0 < n) × (targetOf (eventAt store k) ≡ idOf store (getD G k 0))
+      gone : Unnamed store n k (getD G k 0) → (getD G k 0 < n) × (targetOf (eventAt store k) ≡ idOf store (getD G k 0))
       gone u =
           let other = kind-other (eventAt store k) (rw e) in
-          let c = sound→ held (idOf store k) (eventIn k) (found tables k h) other t .target-suits (revoke-kind (eventAt store k) ∙ rw e) in
-          clash (ancestor seen (idOf store k) (eventIn k .target) && maybe false isGrant (findIn held (eventIn k .target)))
+          let c = sound→ held (idOf store k) (heldAt store k) (found tables k h) other t .target-suits (revoke-kind (eventAt store k) ∙ rw e) in
+          clash (ancestor seen (idOf store k) (heldAt store k .target) && maybe false isGrant (findIn held (heldAt store k .target)))
           (rw (c .target-ancestor, c .target-found, c .target-grants))
           (u .refused)
 

@@ -2,7 +2,7 @@
 -- places are sound (1) and T the levels.
 use Prim.Native.Nat.{ℕ, zero, suc, _<_}
 use mathlib.Core.Path.{_≡_}
-use mathlib.Core.Bool.{Bool, true, _&&_, cond}
+use mathlib.Core.Bool.{true, _&&_, cond}
 use mathlib.Core.List.{List, [], _∷_, map}
 use lib.Dec.{eqb, ltb}
 use lib.ListN.{getD}
@@ -12,8 +12,8 @@ use Rattle.model.specs.Heights.{view}
 use Rattle.model.specs.Verdicts.{line, sound}
 use Rattle.model.specs.Store.{heldIn}
 use Rattle.history.specs.Parents.{eventAt, placeBy}
+use Rattle.history.specs.Placed.{idOf}
 use Rattle.tables.specs.Bits.{bitAt}
-use Rattle.ancestry.specs.Ancestors.{idOf}
 
 -- p where it is an ancestor of k, else 256, which is no place
 abbrev pub ifAncestor : List ℕ → ℕ → ℕ → ℕ
@@ -29,10 +29,11 @@ targetAt store n ids index M k =
     let t = ifAncestor M k (placeBy n ids index (targetOf (eventAt store k))) in
     cond (eqb (kindOf (eventAt store k)) 2 && eqb (kindOf (eventAt store t)) 1) t 256
 
--- the places above k, in at most f steps: the presented one, then the one that it presents, up to the creator
+-- the places above k, in at most f steps: the presented one, then the one that it presents, up to the creator; Q has an entry for
+-- every place
 unfoldable pub lineFrom : List ℕ → ℕ → ℕ → List ℕ
 lineFrom Q zero k = []
-lineFrom Q (suc f) k = cond (ltb (getD Q k 256) 256) (getD Q k 256 ∷ lineFrom Q f (getD Q k 256)) []
+lineFrom Q (suc f) k = cond (ltb (getD Q k 0) 256) (getD Q k 0 ∷ lineFrom Q f (getD Q k 0)) []
 
 -- a line has no more members than the level says
 abbrev pub lineOf : List ℕ → List ℕ → ℕ → List ℕ

@@ -3,8 +3,8 @@ use Prim.Native.Nat.{ℕ, zero, suc, _<_, _≤_}
 use native.Mathlib.Omega.{arith}
 use mathlib.Core.Path.{_≡_, refl, sym, ap, ap₂, _∙_}
 use mathlib.Core.Logic.{_⊎_, inl, inr, ⊎-elim}
-use mathlib.Core.Bool.{true, false, _&&_, cond}
-use mathlib.Core.Option.{none, some, Option·some-injective}
+use mathlib.Core.Bool.{Bool, true, false, _&&_, cond}
+use mathlib.Core.Option.{none, some}
 use mathlib.Core.List.{List, _∷_, map, List·Memᴰ, List·Memᴰ·cases-cons, List·Memᴰ·not-nil}
 use lib.Dec.{eqb, ltb}
 use lib.ListN.{length, getD, take}
@@ -23,21 +23,15 @@ use Rattle.model.specs.Store.{eventOf, heldIn, storeGood}
 use Rattle.model.specs.StoreLaws.{checked→}
 use Rattle.store.specs.declared.Slot.the-variants.{At, Gap}
 use Rattle.store.specs.Tables.{slotIn, TablesOf}
-use Rattle.store.specs.TableLaws.{slot-found}
 use Rattle.history.specs.Parents.{eventAt, placeBy, ParentTable}
 use Rattle.history.specs.Levels.{Fixed}
-use Rattle.history.specs.LevelLaws.{heightOf, bySlot, id-at, find-at, find-gap, level-height}
-use Rattle.ancestry.specs.Ancestors.{idOf, AncestorBits}
-use Rattle.ancestry.specs.AncestorLaws.{find-place, same-place, settled-level, level-settled}
+use Rattle.history.specs.LevelLaws.{heightOf, level-from, bySlot, find-gap, level-height}
+use Rattle.history.specs.Placed.{heldAt, idOf, find-place, same-place, slot-place, settled-level, level-settled}
+use Rattle.tables.specs.Bits.{bit-high}
+use Rattle.ancestry.specs.Ancestors.{AncestorBits}
 use Rattle.authority.specs.Lines.{ifAncestor, presentedAt, targetAt, lineFrom, lineOf}
 use Rattle.authority.specs.Sound.{PresentedTable, TargetTable, targetSuitsAt}
-use Rattle.authority.specs.EntryLaws.{any-default, no-bit, cond-same}
 use Rattle.authority.specs.KindLaws.{grant-kind, revoke-kind}
-
--- a height that a level is
-pub level-some : (t h : ℕ) → heightOf t ≡ some h → t ≡ suc h
-level-some zero h e = clashOption none h refl e
-level-some (suc g) h e = ap suc (Option·some-injective g h e)
 
 -- the tables of a store that passes check 2, as far as soundness reads them
 pub record Tables (entry : ℕ → ℕ → ℕ) (store : Bytes) (n : ℕ) (ids : Bytes) (index P T M Q G : List ℕ) : Type 0 where
@@ -47,9 +41,7 @@ pub record Tables (entry : ℕ → ℕ → ℕ) (store : Bytes) (n : ℕ) (ids :
   pub long : length T ≡ n
   pub fixed : Fixed P T
   pub ancestors : AncestorBits store n T M
-  pub presented-long : length Q ≡ 256
   pub presents : PresentedTable store n ids index M Q
-  pub targets-long : length G ≡ 256
   pub names : TargetTable store n ids index M G
 
 module _ (store : Bytes) (n k : ℕ) where
@@ -70,12 +62,12 @@ module _ (store : Bytes) (n k : ℕ) where
 
   -- the revoke at place k names an ancestor of kind grant, at place q; or it does not, and q is none
   pub record Named (q : ℕ) : Type 0 where
-    pub named : AncestorAt (eventOf (eventAt store k) .target) q
-    pub grants : isGrant (eventOf (eventAt store q)) ≡ true
+    pub named : AncestorAt (heldAt store k .target) q
+    pub grants : isGrant (heldAt store q) ≡ true
 
   pub record Unnamed (q : ℕ) : Type 0 where
-    pub refused : (ancestor (view (heldIn store n)) (idOf store k) (eventOf (eventAt store k) .target)
-        && maybe false isGrant (findIn (heldIn store n) (eventOf (eventAt store k) .target))) ≡ false
+    pub refused : (ancestor (view (heldIn store n)) (idOf store k) (heldAt store k .target)
+        && maybe false isGrant (findIn (heldIn store n) (heldAt store k .target))) ≡ false
     pub no-place : q ≡ 256
 
 module _ {entry : ℕ → ℕ → ℕ} {store : Bytes} {n : ℕ} {ids : Bytes} {index P T M Q G : List ℕ} (tables : Tables entry store n ids index P T M Q G) where
@@ -85,24 +77,16 @@ module _ {entry : ℕ → ℕ → ℕ} {store : Bytes} {n : ℕ} {ids : Bytes} {
   abbrev seen : View
   seen = view (heldIn store n)
 
-  abbrev eventIn : ℕ → Event
-  eventIn k = eventOf (eventAt store k)
-
   pub few : n ≤ 256
   few = checked→ entry store n (tables .good) .at-most
 
   -- ── the events by their places, and their levels ────────────────────────────────────────────────────────────────────────
 
-  pub found : (k : ℕ) → k < n → findIn held (idOf store k) ≡ some (eventIn k)
+  pub found : (k : ℕ) → k < n → findIn held (idOf store k) ≡ some (heldAt store k)
   found = find-place entry store n (tables .good) ids index (tables .indexed)
 
-  -- an id that the index has is that of the event at the place
-  pub slot-place : (a : Id) (p : ℕ) → slotIn ids 0 (take n index) a ≡ At p → (p < n) × (idOf store p ≡ a)
-  unfolding eventOf
-  slot-place a p e =
-      let inside = find-at entry store n (tables .good) ids index (tables .indexed) a p e .0 in
-      let id = id-at entry store n (tables .good) ids index (tables .indexed) p inside in
-      (inside, sym id ∙ slot-found ids 0 (take n index) a p e .1)
+  pub place-at : (a : Id) (p : ℕ) → slotIn ids 0 (take n index) a ≡ At p → (p < n) × (idOf store p ≡ a)
+  place-at = slot-place entry store n (tables .good) ids index (tables .indexed)
 
   pub level-is : (k : ℕ) → k < n → heightOf (getD T k 0) ≡ height seen (idOf store k)
   level-is = level-height entry store n (tables .good) ids index (tables .indexed) P (tables .parents) T (tables .long) (tables .fixed)
@@ -121,8 +105,8 @@ module _ {entry : ℕ → ℕ → ℕ} {store : Bytes} {n : ℕ} {ids : Bytes} {
   lower k p h l t =
       let w = settled→ seen (idOf store k) (descendant-settled held (idOf store k) (idOf store p) t) in
       let u = ancestor-height held (idOf store k) (idOf store p) (w .0) (w .1) t in
-      let a = level-some (getD T k 0) (w .0) (level-is k h ∙ w .1) in
-      let b = level-some (getD T p 0) (u .0) (level-is p l ∙ u .1) in
+      let a = level-from (getD T k 0) (w .0) (level-is k h ∙ w .1) in
+      let b = level-from (getD T p 0) (u .0) (level-is p l ∙ u .1) in
       ((λ z. omega (arith, b, z)), omega (arith, a, b, u .2))
 
   -- ── ancestors by their places ─────────────────────────────────────────────────────────────────────────────────────────
@@ -147,7 +131,7 @@ module _ {entry : ℕ → ℕ → ℕ} {store : Bytes} {n : ℕ} {ids : Bytes} {
 
       at : (p : ℕ) → slotIn ids 0 (take n index) a ≡ At p → Cases
       at p e =
-          let place = slot-place a p e in
+          let place = place-at a p e in
           let row = tables .ancestors .bit k p h (place .0) s ∙ ap (ancestor seen (idOf store k)) (place .1) in
           byBool (ancestor seen (idOf store k) a)
           (λ t. rw (e, row ∙ t) (inl (record { is-ancestor = t; inside = place .0; id-is = place .1 })))
@@ -156,17 +140,16 @@ module _ {entry : ℕ → ℕ → ℕ} {store : Bytes} {n : ℕ} {ids : Bytes} {
       gone : (g : ℕ) → slotIn ids 0 (take n index) a ≡ Gap g → Cases
       gone g e =
           let none-held = unheld (idOf store k) a (find-gap entry store n (tables .good) ids index (tables .indexed) a g e) in
-          rw (e, no-bit M k) (inr (record { none-such = none-held; no-place = refl }))
+          rw (e, bit-high M k 256 (omega arith)) (inr (record { none-such = none-held; no-place = refl }))
 
   -- ── lines ─────────────────────────────────────────────────────────────────────────────────────────────────────────────
 
   -- the entry of a settled place is where the presented ancestor stands
   pub presented-place : (k : ℕ) → k < n → Settled k
-      → AncestorAt store n k (eventIn k .presented) (getD Q k 256) ⊎ NoAncestor store n k (eventIn k .presented) (getD Q k 256)
+      → AncestorAt store n k (heldAt store k .presented) (getD Q k 0) ⊎ NoAncestor store n k (heldAt store k .presented) (getD Q k 0)
   unfolding presentedAt eventOf
   presented-place k h s =
-      let read = any-default Q k 256 0 (omega (arith, few, tables .presented-long)) ∙ tables .presents .entry k h in
-      rw read (ancestor-place k (presentedOf (eventAt store k)) h s)
+      rw (tables .presents .entry k h) (ancestor-place k (presentedOf (eventAt store k)) h s)
 
   -- one step: what is presented, then its line, or the end
   line-step : (f k : ℕ) → k < n → Settled k → getD T k 0 ≤ suc f
@@ -174,23 +157,23 @@ module _ {entry : ℕ → ℕ → ℕ} {store : Bytes} {n : ℕ} {ids : Bytes} {
   unfolding lineFrom
   line-step f k h s l up = ⊎-elim goes ends (presented-place k h s)
     where
-      goes : AncestorAt store n k (eventIn k .presented) (getD Q k 256) → LineIs store n k (lineFrom Q (suc f) k)
+      goes : AncestorAt store n k (heldAt store k .presented) (getD Q k 0) → LineIs store n k (lineFrom Q (suc f) k)
       goes w =
-          let p = getD Q k 256 in
+          let p = getD Q k 0 in
           let low = lower k p h (w .inside) (ap (ancestor seen (idOf store k)) (w .id-is) ∙ w .is-ancestor) in
           let rest = up p (w .inside) (low .0) (omega (arith, low .1)) in
-          let whole = line-presents held (idOf store k) (eventIn k) (found k h) (settled-at k h s) (w .is-ancestor) in
+          let whole = line-presents held (idOf store k) (heldAt store k) (found k h) (settled-at k h s) (w .is-ancestor) in
           rw (lt-ltb p 256 (omega (arith, w .inside, few)))
           (record {
             is-line = whole ∙ ap₂ (λ (i : Id) (m : List Id). i ∷ m) (sym (w .id-is)) (ap (line seen) (sym (w .id-is)) ∙ rest .is-line);
             all-inside = λ j m. ⊎-elim (λ (e : j ≡ p). rw e (w .inside)) (λ r. rest .all-inside j r) (List·Memᴰ·cases-cons m);
           })
 
-      ends : NoAncestor store n k (eventIn k .presented) (getD Q k 256) → LineIs store n k (lineFrom Q (suc f) k)
+      ends : NoAncestor store n k (heldAt store k .presented) (getD Q k 0) → LineIs store n k (lineFrom Q (suc f) k)
       ends w =
           rw (w .no-place)
           (record {
-            is-line = line-ends held (idOf store k) (eventIn k) (found k h) (w .none-such);
+            is-line = line-ends held (idOf store k) (heldAt store k) (found k h) (w .none-such);
             all-inside = λ j m. absurd (List·Memᴰ·not-nil m);
           })
 
@@ -210,35 +193,38 @@ module _ {entry : ℕ → ℕ → ℕ} {store : Bytes} {n : ℕ} {ids : Bytes} {
       (λ j i. sym (same-place entry store n (tables .good) ids index (tables .indexed) q j h (inside j i)))
 
   -- the ancestor that is named, by its kind
-  kind-cases : (k t : ℕ) → AncestorAt store n k (eventIn k .target) t ⊎ NoAncestor store n k (eventIn k .target) t
+  kind-cases : (k t : ℕ) → AncestorAt store n k (heldAt store k .target) t ⊎ NoAncestor store n k (heldAt store k .target) t
       → Named store n k (cond (eqb (kindOf (eventAt store t)) 1) t 256) ⊎ Unnamed store n k (cond (eqb (kindOf (eventAt store t)) 1) t 256)
   kind-cases k t = ⊎-elim at gone
     where
       Cases : Type 0
       Cases = Named store n k (cond (eqb (kindOf (eventAt store t)) 1) t 256) ⊎ Unnamed store n k (cond (eqb (kindOf (eventAt store t)) 1) t 256)
 
-      at : AncestorAt store n k (eventIn k .target) t → Cases
+      at : AncestorAt store n k (heldAt store k .target) t → Cases
       at w =
           let event = ap (findIn held) (sym (w .id-is)) ∙ found t (w .inside) in
           byBool (eqb (kindOf (eventAt store t)) 1)
           (λ u. rw u (inl (record { named = w; grants = grant-kind (eventAt store t) ∙ u })))
           (λ f. rw f (inr (record { refused = rw (w .is-ancestor, event, grant-kind (eventAt store t), f); no-place = refl })))
 
-      gone : NoAncestor store n k (eventIn k .target) t → Cases
-      gone w = inr (record { refused = rw (w .none-such); no-place = rw (w .no-place) (cond-same (eqb (kindOf (eventAt store 256)) 1)) })
+      either : (b : Bool) → _≡_ {A = ℕ} (cond b 256 256) 256
+      either true = refl
+      either false = refl
+
+      gone : NoAncestor store n k (heldAt store k .target) t → Cases
+      gone w = inr (record { refused = rw (w .none-such); no-place = rw (w .no-place) (either (eqb (kindOf (eventAt store 256)) 1)) })
 
   -- the entry of a settled revoke is where the named grant stands
-  pub target-place : (k : ℕ) → k < n → Settled k → kindOf (eventAt store k) ≡ 2 → Named store n k (getD G k 256) ⊎ Unnamed store n k (getD G k 256)
+  pub target-place : (k : ℕ) → k < n → Settled k → kindOf (eventAt store k) ≡ 2 → Named store n k (getD G k 0) ⊎ Unnamed store n k (getD G k 0)
   unfolding targetAt eventOf
   target-place k h s e =
       let t = ifAncestor M k (placeBy n ids index (targetOf (eventAt store k))) in
-      let read : getD G k 256 ≡ cond (eqb (kindOf (eventAt store t)) 1) t 256 =
-      any-default G k 256 0 (omega (arith, few, tables .targets-long)) ∙ tables .names .entry k h ∙ rw e in
+      let read : getD G k 0 ≡ cond (eqb (kindOf (eventAt store t)) 1) t 256 = tables .names .entry k h ∙ rw e in
       rw read (kind-cases k t (ancestor-place k (targetOf (eventAt store k)) h s))
 
   -- the condition on targets, where an ancestor is presented
-  pub target-is : (k : ℕ) → k < n → Settled k → AncestorAt store n k (eventIn k .presented) (getD Q k 256)
-      → targetSuits seen (eventIn k) ≡ targetSuitsAt store T Q G k
+  pub target-is : (k : ℕ) → k < n → Settled k → AncestorAt store n k (heldAt store k .presented) (getD Q k 0)
+      → targetSuits seen (heldAt store k) ≡ targetSuitsAt store T Q G k
   unfolding targetSuits targetSuitsAt
   target-is k h s w =
       rw (revoke-kind (eventAt store k))
@@ -248,21 +234,21 @@ module _ {entry : ℕ → ℕ → ℕ} {store : Bytes} {n : ℕ} {ids : Bytes} {
     where
       Same : Type 0
       Same =
-          (ancestor seen (idOf store k) (eventIn k .target)
-          && maybe false isGrant (findIn held (eventIn k .target))
-          && memberOf (eventIn k .presented) (line seen (eventIn k .target)))
-          ≡ (ltb (getD G k 256) 256 && anyOf (eqb (getD Q k 256)) (lineOf Q T (getD G k 256)))
+          (ancestor seen (idOf store k) (heldAt store k .target)
+          && maybe false isGrant (findIn held (heldAt store k .target))
+          && memberOf (heldAt store k .presented) (line seen (heldAt store k .target)))
+          ≡ (ltb (getD G k 0) 256 && anyOf (eqb (getD Q k 0)) (lineOf Q T (getD G k 0)))
 
-      names-one : Named store n k (getD G k 256) → Same
+      names-one : Named store n k (getD G k 0) → Same
       names-one u =
-          let q = getD G k 256 in
+          let q = getD G k 0 in
           let a = u .named in
           let event = ap (findIn held) (sym (a .id-is)) ∙ found q (a .inside) in
           let low = lower k q h (a .inside) (ap (ancestor seen (idOf store k)) (a .id-is) ∙ a .is-ancestor) in
           let above = lines (getD T q 0) q (a .inside) (low .0) (omega arith) in
           let member = ap₂ memberOf (sym (w .id-is)) (ap (line seen) (sym (a .id-is)) ∙ above .is-line)
-          ∙ member-is (getD Q k 256) (w .inside) (lineOf Q T q) (above .all-inside) in
+          ∙ member-is (getD Q k 0) (w .inside) (lineOf Q T q) (above .all-inside) in
           rw (a .is-ancestor, event, u .grants, lt-ltb q 256 (omega (arith, a .inside, few)), member)
 
-      names-none : Unnamed store n k (getD G k 256) → Same
+      names-none : Unnamed store n k (getD G k 0) → Same
       names-none u = rw (u .refused, u .no-place)

@@ -1,8 +1,8 @@
 -- Soundness by places. P is the table of the parents' places, T that of levels, M the rows of ancestors, Q the presented places,
 -- G the targets, S the places found sound (1), l the settled places, each behind its parents.
 use Prim.Native.Nat.{ℕ, _+_, _*_, _<_}
-use mathlib.Core.Path.{_≡_}
-use mathlib.Core.Bool.{Bool, false, not, _&&_, _||_, cond}
+use mathlib.Core.Path.{_≡_, refl}
+use mathlib.Core.Bool.{Bool, true, false, not, _&&_, _||_, cond}
 use mathlib.Core.Option.{Option, none, some}
 use mathlib.Core.List.{List, List·Memᴰ}
 use lib.Dec.{eqb, ltb}
@@ -59,19 +59,23 @@ permitsAt x g =
 unfoldable pub targetSuitsAt : Bytes → List ℕ → List ℕ → List ℕ → ℕ → Bool
 targetSuitsAt store T Q G k =
     not (eqb (kindOf (eventAt store k)) 2)
-    || (ltb (getD G k 256) 256 && anyOf (eqb (getD Q k 256)) (lineOf Q T (getD G k 256)))
+    || (ltb (getD G k 0) 256 && anyOf (eqb (getD Q k 0)) (lineOf Q T (getD G k 0)))
 
 -- the five conditions; the creator, at place 0, is sound
 unfoldable pub soundAt : Bytes → List ℕ → List ℕ → List ℕ → List ℕ → List ℕ → ℕ → Bool
 soundAt store P T Q G S k =
     eqb k 0
     || (parentsSound P S k
-    && maybe false (permitsAt (eventAt store k)) (grantAt store (getD Q k 256))
+    && maybe false (permitsAt (eventAt store k)) (grantAt store (getD Q k 0))
     && targetSuitsAt store T Q G k)
 
 -- what the table holds for a test
 abbrev pub bit : Bool → ℕ
 bit b = cond b 1 0
+
+pub bit-test : (b : Bool) → eqb (bit b) 1 ≡ b
+bit-test true = refl
+bit-test false = refl
 
 -- the table says of each listed place whether it is sound, from what it says of the parents; of another place 0
 pub record SoundTable (store : Bytes) (P T Q G l S : List ℕ) : Type 0 where

@@ -1,8 +1,8 @@
 // Who may do what: the grant that each place presents, the target of each revoke, lines, and which places are sound.
 ghost use mathlib.Core.Path.{_≡_};
-ghost use Prim.Native.Nat.{ℕ, _<_, _≤_};
+ghost use Prim.Native.Nat.{_<_, _≤_};
 ghost use lib.Dec.{eqb};
-ghost use lib.ListN.{length, getD, take};
+ghost use lib.ListN.{length, take};
 ghost use Rattle.lists.specs.Sorting.{Ascending};
 ghost use Rattle.lists.specs.Tests.{anyOf};
 ghost use Rattle.model.specs.Verdicts.{has, within};
@@ -18,13 +18,6 @@ use store::Slot;
 pub enum Presented {
     Gives(Grant),
     Nothing,
-}
-
-// The entry at i, or `none` past the end.
-fn entry(table: &[u16], i: usize, none: u16) -> u16
-    ensures { λ r. ⌜ r ≡ getD (now (table .entry)) i none ⌝ }
-{
-    if i < table.len() { table[i] } else { none }
 }
 
 // The 192 bytes at a place.
@@ -125,7 +118,7 @@ pub fn on_line(presented: &[u16], left: u16, sought: u16, place: u16) -> bool
     if left == 0 {
         return false;
     }
-    let p = entry(presented, place as usize, 256);
+    let p = tables::entry(presented, place);
     if 256 <= p {
         return false;
     }
@@ -204,12 +197,12 @@ fn target_suits(store: &[u8], levels: &[u16], presented: &[u16], targets: &[u16]
     if octets::byte(event_at(store, k), 0) != 2 {
         return true;
     }
-    let t = entry(targets, k as usize, 256);
+    let t = tables::entry(targets, k);
     if 256 <= t {
         return false;
     }
-    let left = entry(levels, t as usize, 0);
-    let sought = entry(presented, k as usize, 256);
+    let left = tables::entry(levels, t);
+    let sought = tables::entry(presented, k);
     on_line(presented, left, sought, t)
 }
 
@@ -222,12 +215,13 @@ fn parent_sound(sound: &[u8], p: u16) -> bool
 }
 
 fn parents_sound(parents: &[u16], sound: &[u8], k: u16) -> bool
+    requires { ⌜ k < 256 ⌝ }
     ensures { λ r. ⌜ r ≡ parentsSound (now (parents .entry)) (now (sound .entry)) k ⌝ }
 {
-    let i = (k as usize) * 3;
-    let a = entry(parents, i, 0);
-    let b = entry(parents, i + 1, 0);
-    let c = entry(parents, i + 2, 0);
+    let i = k * 3;
+    let a = tables::entry(parents, i);
+    let b = tables::entry(parents, i + 1);
+    let c = tables::entry(parents, i + 2);
     parent_sound(sound, a) & parent_sound(sound, b) & parent_sound(sound, c)
 }
 
@@ -241,6 +235,7 @@ fn sound_at(
     sound: &[u8],
     k: u16,
 ) -> u8
+    requires { ⌜ k < 256 ⌝ }
     ensures { λ r. ⌜ r ≡ bit (soundAt (now (store .entry)) (now (parents .entry)) (now (levels .entry)) (now (presented .entry)) (now (targets .entry)) (now (sound .entry)) k) ⌝ }
 {
     if k == 0 {
@@ -249,23 +244,12 @@ fn sound_at(
     if !parents_sound(parents, sound, k) {
         return 0;
     }
-    let Presented::Gives(grant) = presented_grant(store, entry(presented, k as usize, 256)) else {
+    let Presented::Gives(grant) = presented_grant(store, tables::entry(presented, k)) else {
         return 0;
     };
     let permitted = permits(event_at(store, k), grant);
     let suits = target_suits(store, levels, presented, targets, k);
     if permitted & suits { 1 } else { 0 }
-}
-
-// Takes every entry away.
-fn clear(table: &mut [u8])
-    ensures { λ _. ⌜ ((i : ℕ) → getD (now (table .exit)) i 0 ≡ 0) ⌝ }
-{
-    let mut i = 0;
-    while i < table.len() {
-        table[i] = 0;
-        i += 1;
-    }
 }
 
 // Says of each listed place whether it is sound (1); every other entry is 0. The places stand behind their parents.
@@ -281,7 +265,7 @@ pub fn sound_places(
     requires { ⌜ Ordered (now parents) (now order) × (length (now sound) ≡ 256) ⌝ }
     ensures { λ _. ⌜ SoundTable (now (store .entry)) (now (parents .entry)) (now (levels .entry)) (now (presented .entry)) (now (targets .entry)) (now (order .entry)) (now (sound .exit)) ⌝ }
 {
-    clear(sound);
+    tables::clear_bytes(sound);
     let mut i = 0;
     while i < order.len() {
         let k = order[i];

@@ -4,23 +4,35 @@ use native.Mathlib.Omega.{arith}
 use native.Mathlib.Numerals.{add-one}
 use mathlib.Core.Path.{_≡_, refl, sym, ap, _∙_}
 use mathlib.Core.Bool.{cond}
-use mathlib.Core.List.{List, [], _∷_, _++_, map, map-append, flatten, append-nil, append-assoc, Memᴰ·of-map}
+use mathlib.Core.List.{List, [], _∷_, _++_, map, map-append, flatten, append-nil, append-assoc}
 use lib.Dec.{eqb, ltb}
 use lib.ListN.{length, getD, take, drop, length-append, length-map, length-take, length-drop, take-append-drop, drop-of-length-le}
 use lib.Seq.{take-at, length-take-le, drop-cons}
-use borrow.Author.Tests.{lt-ltb, ltb-true, ltb-false, le-leb, lt-leb}
+use borrow.Author.Tests.{ltb-true, ltb-false, le-leb, lt-leb}
 use Rattle.lists.specs.Cases.{byBool}
 use Rattle.lists.specs.Bytes.{Bytes}
 use Rattle.lists.specs.Tests.{keep}
-use Rattle.lists.specs.Chunks.{chunks, length-chunks, chunks-last, length-flatten}
+use Rattle.lists.specs.Chunks.{chunks, length-chunks, chunks-last}
 use Rattle.octets.specs.Octets.{byteAt, be16, part, pasted}
-use Rattle.event.specs.declared.Cord.{Cord}
 use Rattle.event.specs.Contents.{cordAt}
 use Rattle.model.specs.Output.{overwritten, overwritten-none, overwritten-more}
-use Rattle.printing.specs.Text.{lastDigit, decimal, digits, field, rowLine, textFrom, howMany, rowCord, rowsIn, textOf, answerOf, outputOf}
+use Rattle.printing.specs.Text.{
+  lastDigit,
+  decimal,
+  digits,
+  field,
+  rowLine,
+  howMany,
+  rowCord,
+  rowsIn,
+  textOf,
+  answerOf,
+  outputOf,
+}
 use Rattle.printing.specs.declared.Printed.the-variants.{Bytes as printed, Short as short}
 use Rattle.printing.specs.Steps.{leadingZeros, headOf}
 use Rattle.printing.specs.TextLaws.{decimal-one, decimal-step}
+use Rattle.printing.specs.Sizes.{line-length, lines-length, text-parts, text-length}
 
 -- ── numbers ──────────────────────────────────────────────────────────────────────────────────────────────────────────────────
 
@@ -28,7 +40,7 @@ last : (n : ℕ) → n < 10 → decimal n ≡ lastDigit n ∷ []
 last n h = let e : n % 10 ≡ n = omega arith in decimal-one n h ∙ rw e
 
 -- of five digits those behind the zeros in front are the number
-pub behind-zeros : (n : ℕ) → n < 65536 → take 5 (drop (leadingZeros n) (digits 5 n)) ≡ decimal n
+behind-zeros : (n : ℕ) → n < 65536 → take 5 (drop (leadingZeros n) (digits 5 n)) ≡ decimal n
 unfolding leadingZeros digits
 behind-zeros n h =
     byBool (ltb n 10) (λ t. rw (t, last n (ltb-true n 10 t)))
@@ -38,9 +50,10 @@ behind-zeros n h =
     (byBool (ltb n 1000) (λ t. let l = ltb-true n 1000 t in rw (t, last (n / 10 / 10) (omega arith)))
     (λ p. let c = ltb-false n 1000 p in rw (p, decimal-step (n / 10 / 10) (omega arith))
     (byBool (ltb n 10000) (λ t. let l = ltb-true n 10000 t in rw (t, last (n / 10 / 10 / 10) (omega arith)))
-    (λ q. let d = ltb-false n 10000 q in rw (q, decimal-step (n / 10 / 10 / 10) (omega arith), last (n / 10 / 10 / 10 / 10) (omega arith)))))))))
+    (λ q. let d = ltb-false n 10000 q in
+    rw (q, decimal-step (n / 10 / 10 / 10) (omega arith), last (n / 10 / 10 / 10 / 10) (omega arith)))))))))
 
-pub decimal-length : (n : ℕ) → n < 65536 → length (decimal n) ≡ 5 - leadingZeros n
+decimal-length : (n : ℕ) → n < 65536 → length (decimal n) ≡ 5 - leadingZeros n
 unfolding digits
 decimal-length n h =
     let five = digits-length n in
@@ -48,21 +61,6 @@ decimal-length n h =
   where
     digits-length : (n : ℕ) → length (digits 5 n) ≡ 5
     digits-length n = refl
-
-two-zeros : (n : ℕ) → n < 1000 → 2 ≤ leadingZeros n
-unfolding leadingZeros
-two-zeros n h =
-    byBool (ltb n 10) (λ t. rw t (omega arith)) (λ f.
-    rw f (byBool (ltb n 100) (λ t. rw t (omega arith)) (λ g. rw (g, lt-ltb n 1000 h) (omega arith))))
-
--- a number of 16 bits has at most five digits, one below 1,000 at most three
-pub field-size : (word : Bytes) (n : ℕ) → n < 65536 → length (field word n) ≤ length word + 5
-unfolding field
-field-size word n h = omega (arith, length-append word (decimal n), decimal-length n h)
-
-pub field-size-3 : (word : Bytes) (n : ℕ) → n < 1000 → length (field word n) ≤ length word + 3
-unfolding field
-field-size-3 word n h = omega (arith, length-append word (decimal n), decimal-length n (omega arith), two-zeros n h)
 
 pub number-written : (o d five : Bytes) (at n zeros : ℕ) → n < 65536 → five ≡ digits 5 n → zeros ≡ leadingZeros n
     → d ≡ pasted o at (take 5 (drop zeros five)) → (d ≡ pasted o at (decimal n)) × (at + (5 - zeros) ≡ at + length (decimal n))
@@ -81,8 +79,8 @@ pub record Written (r o d : Bytes) (at : ℕ) : Type 0 where
 pub written-start : (o : Bytes) → Written [] o o 0
 written-start o = record { text = overwritten-none o; size = refl }
 
-pub written-more : {r o d e : Bytes} {at : ℕ} (x : Bytes) (end : ℕ) → Written r o d at → e ≡ pasted d at x → end ≡ at + length x → end ≤ length o
-    → Written (r ++ x) o e end
+pub written-more : {r o d e : Bytes} {at : ℕ} (x : Bytes) (end : ℕ) → Written r o d at → e ≡ pasted d at x → end ≡ at + length x
+    → end ≤ length o → Written (r ++ x) o e end
 written-more {r} {o} {d} {e} {at} x end w q s h =
     let l = length-append r x in
     record {
@@ -100,7 +98,8 @@ over o x at h =
     ∙ ap (λ (k : ℕ). pasted (overwritten (take at o) o) k x) (sym l)
     ∙ overwritten-more (take at o) x o (omega arith)
 
-pub pasted-behind : (o x y : Bytes) (at k : ℕ) → k ≡ at + length x → k + length y ≤ length o → pasted (pasted o at x) k y ≡ pasted o at (x ++ y)
+pasted-behind : (o x y : Bytes) (at k : ℕ) → k ≡ at + length x → k + length y ≤ length o
+    → pasted (pasted o at x) k y ≡ pasted o at (x ++ y)
 pasted-behind o x y at k e h =
     let l : length (take at o) ≡ at = length-take-le at o (omega arith) in
     let m = length-append (take at o) x in
@@ -111,8 +110,8 @@ pasted-behind o x y at k e h =
     ∙ ap (λ (b : Bytes). overwritten b o) (append-assoc (take at o) x y)
     ∙ sym (over o (x ++ y) at (omega arith))
 
-pub field-behind : (o d e word : Bytes) (at k n : ℕ) → d ≡ pasted o at word → k ≡ at + length word → at + length (field word n) ≤ length o
-    → e ≡ pasted d k (decimal n) → e ≡ pasted o at (field word n)
+pub field-behind : (o d e word : Bytes) (at k n : ℕ) → d ≡ pasted o at word → k ≡ at + length word
+    → at + length (field word n) ≤ length o → e ≡ pasted d k (decimal n) → e ≡ pasted o at (field word n)
 unfolding field
 field-behind o d e word at k n p q h r =
     r ∙ ap (λ (b : Bytes). pasted b k (decimal n)) p
@@ -128,16 +127,11 @@ field-length word n = length-append word (decimal n)
 unfoldable pub lines : Bytes → ℕ → Bytes
 lines rows i = flatten (map rowLine (map rowCord (chunks 8 rows i)))
 
-line-length : (c : Cord) → length (rowLine c) ≡ 22
-unfolding rowLine digits
-line-length c = refl
-
-pub lines-length : (rows : Bytes) (i : ℕ) → length (lines rows i) ≡ i * 22
+lines-size : (rows : Bytes) (i : ℕ) → length (lines rows i) ≡ i * 22
 unfolding lines
-lines-length rows i =
-    let cs = map rowCord (chunks 8 rows i) in
-    length-flatten 22 (map rowLine cs) (λ x m. let r = Memᴰ·of-map rowLine cs m in ap length (sym (r .2)) ∙ line-length (r .0))
-    ∙ ap (λ (k : ℕ). k * 22) (length-map cs rowLine ∙ length-map (chunks 8 rows i) rowCord ∙ length-chunks 8 rows i)
+lines-size rows i =
+    lines-length (map rowCord (chunks 8 rows i))
+    ∙ ap (λ (k : ℕ). k * 22) (length-map (chunks 8 rows i) rowCord ∙ length-chunks 8 rows i)
 
 flatten-last : (l : List Bytes) (x : Bytes) → flatten (l ++ (x ∷ [])) ≡ flatten l ++ x
 unfolding flatten
@@ -165,7 +159,7 @@ pub lines-turn : (rows o d e t : Bytes) (at i n : ℕ) → i < n → at + n * 22
 lines-turn rows o d e t at i n h room q qt qe =
     let x = lines rows i in
     let y = rowLine (rowCord (part rows (i * 8) 8)) in
-    let lx = lines-length rows i in
+    let lx = lines-size rows i in
     let ly = line-length (rowCord (part rows (i * 8) 8)) in
     qe
     ∙ ap (λ (b : Bytes). pasted b (at + i * 22) t) q
@@ -182,21 +176,23 @@ lines-end rows i e = rw e
 unfoldable pub assembled : Bytes → Bytes → Bytes → Bytes → Bytes → Bytes
 assembled a b j k m =
     getD a 0 0 ∷ getD a 1 0 ∷ getD a 2 0 ∷ getD a 3 0 ∷ 32 ∷ getD b 0 0 ∷ getD b 1 0 ∷ getD b 2 0 ∷ getD b 3 0 ∷ 32
-    ∷ getD j 0 0 ∷ getD j 1 0 ∷ 32 ∷ getD k 0 0 ∷ getD k 1 0 ∷ 32 ∷ getD m 0 0 ∷ getD m 1 0 ∷ getD m 2 0 ∷ getD m 3 0 ∷ getD m 4 0 ∷ 10 ∷ []
+    ∷ getD j 0 0 ∷ getD j 1 0 ∷ 32 ∷ getD k 0 0 ∷ getD k 1 0 ∷ 32
+    ∷ getD m 0 0 ∷ getD m 1 0 ∷ getD m 2 0 ∷ getD m 3 0 ∷ getD m 4 0 ∷ 10 ∷ []
 
-assembled-line : (a b j k m : ℕ) → assembled (digits 4 a) (digits 4 b) (digits 2 j) (digits 2 k) (digits 5 m) ≡ rowLine (cordAt a b j k m)
+assembled-line : (a b j k m : ℕ)
+    → assembled (digits 4 a) (digits 4 b) (digits 2 j) (digits 2 k) (digits 5 m) ≡ rowLine (cordAt a b j k m)
 unfolding assembled rowLine digits
 assembled-line a b j k m = refl
 
-pub line-of : (x a b j k m : Bytes) → a ≡ digits 4 (be16 x 0) → b ≡ digits 4 (be16 x 2) → j ≡ digits 2 (byteAt x 4) → k ≡ digits 2 (byteAt x 5)
-    → m ≡ digits 5 (be16 x 6) → assembled a b j k m ≡ rowLine (rowCord x)
+pub line-of : (x a b j k m : Bytes) → a ≡ digits 4 (be16 x 0) → b ≡ digits 4 (be16 x 2)
+    → j ≡ digits 2 (byteAt x 4) → k ≡ digits 2 (byteAt x 5) → m ≡ digits 5 (be16 x 6) → assembled a b j k m ≡ rowLine (rowCord x)
 unfolding rowCord
 line-of x a b j k m p q r s t = rw (p, q, r, s, t) (assembled-line (be16 x 0) (be16 x 2) (byteAt x 4) (byteAt x 5) (be16 x 6))
 
 -- ── counts ───────────────────────────────────────────────────────────────────────────────────────────────────────────────────
 
-pub many-turn : (k : ℕ) (l : List ℕ) (i n s : ℕ) → i < length l → howMany k l ≡ n + howMany k (drop i l) → s ≡ cond (eqb (getD l i 0) k) 1 0
-    → howMany k l ≡ n + s + howMany k (drop (i + 1) l)
+pub many-turn : (k : ℕ) (l : List ℕ) (i n s : ℕ) → i < length l → howMany k l ≡ n + howMany k (drop i l)
+    → s ≡ cond (eqb (getD l i 0) k) 1 0 → howMany k l ≡ n + s + howMany k (drop (i + 1) l)
 unfolding howMany
 many-turn k l i n s h e q =
     e ∙ rw (add-one, drop-cons l i 0, q) (byBool (eqb (getD l i 0) k) (λ t. rw t (omega arith)) (λ f. rw f (omega arith)))
@@ -207,41 +203,34 @@ many-end k l i n h e = let a : length (keep (λ x. eqb x k) (drop i l)) ≡ 0 = 
 
 -- ── the text ─────────────────────────────────────────────────────────────────────────────────────────────────────────────────
 
-text-parts : (rows : Bytes) (verdicts : List ℕ) → textOf rows verdicts ≡ headOf (length rows / 8) verdicts ++ lines rows (length rows / 8)
-unfolding textOf textFrom headOf lines rowsIn
-text-parts rows verdicts = rw (length-map (chunks 8 rows (length rows / 8)) rowCord, length-chunks 8 rows (length rows / 8))
-
-pub text-size : (rows : Bytes) (verdicts : List ℕ) → length (textOf rows verdicts) ≡ length (headOf (length rows / 8) verdicts) + length rows / 8 * 22
-text-size rows verdicts =
-    let n = length rows / 8 in
-    ap length (text-parts rows verdicts) ∙ length-append (headOf n verdicts) (lines rows n)
-    ∙ ap (λ (k : ℕ). length (headOf n verdicts) + k) (lines-length rows n)
-
 front : (x o : Bytes) (at : ℕ) → at ≡ length x → take at (overwritten x o) ≡ x
 unfolding overwritten
 front x o at e = take-at x (drop (length x) o) at (sym e)
 
 -- `write_text`: a first line that ends at an offset, and what the output then is
 module _ (rows : Bytes) (verdicts : List ℕ) (o : Bytes) (at : ℕ) (size : at ≡ length (headOf (length rows / 8) verdicts)) where
-  pub text-short : length o < at + length rows / 8 * 22 → (short ≡ answerOf (textOf rows verdicts) o) × (o ≡ outputOf (textOf rows verdicts) o)
+  pub text-short : length o < at + length rows / 8 * 22
+      → (short ≡ answerOf (textOf rows verdicts) o) × (o ≡ outputOf (textOf rows verdicts) o)
   unfolding answerOf outputOf
   text-short h =
-      let e = lt-leb (length (textOf rows verdicts)) (length o) (omega (arith, text-size rows verdicts)) in
+      let e = lt-leb (length (textOf rows verdicts)) (length o) (omega (arith, text-length rows verdicts)) in
       (rw e, rw e)
 
-  pub text-written : (b head d e : Bytes) → at + length rows / 8 * 22 ≤ length o → head ≡ overwritten (headOf (length rows / 8) verdicts) b
-      → d ≡ pasted o 0 (part head 0 at) → e ≡ pasted d at (flatten (map rowLine (rowsIn rows)))
+  pub text-written : (b head d e : Bytes) → at + length rows / 8 * 22 ≤ length o
+      → head ≡ overwritten (headOf (length rows / 8) verdicts) b → d ≡ pasted o 0 (part head 0 at)
+      → e ≡ pasted d at (flatten (map rowLine (rowsIn rows)))
       → (printed (at + length rows / 8 * 22) ≡ answerOf (textOf rows verdicts) o) × (e ≡ outputOf (textOf rows verdicts) o)
   unfolding answerOf outputOf
   text-written b head d e room qh qd qe =
       let n = length rows / 8 in
       let h = headOf n verdicts in
-      let fits = le-leb (length (textOf rows verdicts)) (length o) (omega (arith, text-size rows verdicts)) in
-      let first = written-more h at (written-start o) (qd ∙ ap (pasted o 0) (ap (take at) qh ∙ front h b at size)) (omega arith) (omega arith) in
-      let whole =
-          written-more (lines rows n) (at + n * 22) first (qe ∙ ap (pasted d at) (sym (lines-end rows n refl)))
-          (ap (λ (k : ℕ). at + k) (sym (lines-length rows n))) room in
-      (
-        rw fits (ap printed (omega (arith, text-size rows verdicts))),
-        rw fits (whole .text ∙ ap (λ (x : Bytes). overwritten x o) (sym (text-parts rows verdicts))),
+      let ls = flatten (map rowLine (rowsIn rows)) in
+      let fits = le-leb (length (textOf rows verdicts)) (length o) (omega (arith, text-length rows verdicts)) in
+      let all = text-parts rows verdicts in
+      let sum = ap length all ∙ length-append h ls in
+      let begun = qd ∙ ap (pasted o 0) (ap (take at) qh ∙ front h b at size) in
+      let first = written-more h at (written-start o) begun (omega arith) (omega arith) in
+      let whole = written-more ls (at + n * 22) first qe (omega (arith, text-length rows verdicts)) room in (
+        rw fits (ap printed (omega (arith, text-length rows verdicts))),
+        rw fits (whole .text ∙ ap (λ (x : Bytes). overwritten x o) (sym all)),
       )

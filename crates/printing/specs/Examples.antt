@@ -1,27 +1,39 @@
 -- Example 12's lines, and lines with more digits, by computation.
 use mathlib.Core.Path.{_≡_, refl}
-use mathlib.Core.List.{[], _∷_}
+use mathlib.Core.List.{[], _∷_, _++_, flatten}
+use Rattle.lists.specs.Bytes.{Bytes}
 use Rattle.event.specs.Contents.{cordAt}
-use Rattle.printing.specs.Text.{decimalIn, decimal, digits, field, refusalLine, headLine, rowLine}
+use Rattle.printing.specs.Text.{decimalIn, decimal, digits, field, refusalLine, headLine, rowLine, textFrom}
+
+-- "LINKS 1 WAITING 0 UNSOUND 0 VOID 0" and a line feed
+abbrev first-line : Bytes
+first-line =
+    76 ∷ 73 ∷ 78 ∷ 75 ∷ 83 ∷ 32 ∷ 49 ∷ 32 ∷ 87 ∷ 65 ∷ 73 ∷ 84 ∷ 73 ∷ 78 ∷ 71 ∷ 32 ∷ 48 ∷ 32 ∷ 85 ∷ 78 ∷ 83 ∷ 79 ∷ 85 ∷ 78 ∷ 68
+    ∷ 32 ∷ 48 ∷ 32 ∷ 86 ∷ 79 ∷ 73 ∷ 68 ∷ 32 ∷ 48 ∷ 10 ∷ []
 
 -- "0003 0007 04 05 00012" and a line feed
-example-row : rowLine (cordAt 3 7 4 5 12)
-    ≡ 48 ∷ 48 ∷ 48 ∷ 51 ∷ 32 ∷ 48 ∷ 48 ∷ 48 ∷ 55 ∷ 32 ∷ 48 ∷ 52 ∷ 32 ∷ 48 ∷ 53 ∷ 32 ∷ 48 ∷ 48 ∷ 48 ∷ 49 ∷ 50 ∷ 10 ∷ []
+abbrev second-line : Bytes
+second-line =
+    48 ∷ 48 ∷ 48 ∷ 51 ∷ 32 ∷ 48 ∷ 48 ∷ 48 ∷ 55 ∷ 32 ∷ 48 ∷ 52 ∷ 32 ∷ 48 ∷ 53 ∷ 32 ∷ 48 ∷ 48 ∷ 48 ∷ 49 ∷ 50 ∷ 10 ∷ []
+
+example-head : headLine 1 0 0 0 ≡ first-line
+unfolding headLine field decimal decimalIn
+example-head = refl
+
+example-row : rowLine (cordAt 3 7 4 5 12) ≡ second-line
 unfolding rowLine digits
 example-row = refl
+
+-- "it writes these two lines and no more"
+example-text : textFrom 0 0 0 (cordAt 3 7 4 5 12 ∷ []) ≡ first-line ++ second-line
+unfolding textFrom headLine field decimal decimalIn rowLine digits flatten
+example-text = refl
 
 -- "1023 0000 15 10 10000" and a line feed
 full-row : rowLine (cordAt 1023 0 15 10 10000)
     ≡ 49 ∷ 48 ∷ 50 ∷ 51 ∷ 32 ∷ 48 ∷ 48 ∷ 48 ∷ 48 ∷ 32 ∷ 49 ∷ 53 ∷ 32 ∷ 49 ∷ 48 ∷ 32 ∷ 49 ∷ 48 ∷ 48 ∷ 48 ∷ 48 ∷ 10 ∷ []
 unfolding rowLine digits
 full-row = refl
-
--- "LINKS 1 WAITING 0 UNSOUND 0 VOID 0" and a line feed
-example-head : headLine 1 0 0 0
-    ≡ 76 ∷ 73 ∷ 78 ∷ 75 ∷ 83 ∷ 32 ∷ 49 ∷ 32 ∷ 87 ∷ 65 ∷ 73 ∷ 84 ∷ 73 ∷ 78 ∷ 71 ∷ 32 ∷ 48 ∷ 32 ∷ 85 ∷ 78 ∷ 83 ∷ 79 ∷ 85 ∷ 78 ∷ 68
-    ∷ 32 ∷ 48 ∷ 32 ∷ 86 ∷ 79 ∷ 73 ∷ 68 ∷ 32 ∷ 48 ∷ 10 ∷ []
-unfolding headLine field decimal decimalIn
-example-head = refl
 
 -- "LINKS 10 WAITING 255 UNSOUND 100 VOID 9" and a line feed
 longer-head : headLine 10 255 100 9

@@ -1,11 +1,11 @@
--- The map's rows of a store that passes check 2 have numbers that fit the bytes of a row.
+-- The text of a store that passes check 2: the numbers of its map's rows fit the bytes of a row.
 use Prim.Native.Nat.{ℕ, zero, suc, _+_, _*_, _≤_, _<_, min}
 use native.Mathlib.Omega.{arith}
-use mathlib.Core.Path.{_≡_, refl, sym, ap, _∙_, subst}
+use mathlib.Core.Path.{_≡_, refl, ap, _∙_, subst}
 use mathlib.Core.Logic.{⊎-elim}
 use mathlib.Core.Bool.{Bool, true, false, not, _&&_, _||_}
 use mathlib.Core.Option.{none}
-use mathlib.Core.List.{List, [], _∷_, List·Memᴰ, List·Memᴰ·cases-cons, Memᴰ·of-map}
+use mathlib.Core.List.{List, [], _∷_, map, List·Memᴰ, List·Memᴰ·cases-cons, Memᴰ·of-map}
 use lib.Dec.{eqb, leb, ltb}
 use lib.ListN.{length, getD, drop}
 use borrow.Author.Tests.{eqb-true, ltb-true, leb-true}
@@ -25,10 +25,13 @@ use Rattle.model.specs.Events.{Event}
 use Rattle.model.specs.Store.{eventOf, places, heldIn, creatorGood, storeGood}
 use Rattle.model.specs.StoreLaws.{checked→, checked-held, places-first, creator→, later→}
 use Rattle.model.specs.Heights.{view}
+use Rattle.model.specs.Verdicts.{verdict}
 use Rattle.model.specs.Map.{mapRows}
+use Rattle.model.specs.Rows.{mapBytes}
 use Rattle.model.specs.MapLaws.{row-by}
 use Rattle.model.specs.Packing.{held-set}
-use Rattle.printing.specs.TextLaws.{Fits}
+use Rattle.printing.specs.Text.{textOf, roomText}
+use Rattle.printing.specs.TextLaws.{Fits, text-of-set}
 
 -- "Limits for grades 0 to 3": none is above 10,000
 most : (m : ℕ) (l : List ℕ) → allOf (λ x. leb x m) l ≡ true → (i : ℕ) → getD l i 0 ≤ m
@@ -127,3 +130,10 @@ rows-fit store count t c m =
     (λ q. absurd (creator-joins (part store 0 192) c (held .creator-good) (subst (λ (y : Bytes). bodyOf y ≡ join c) q e)))
     (λ n. join-fits (part store 0 192) (w .0) c (later→ cordLimit (part store 0 192) (w .0) (held .others-good (w .0) n) .1) e)
     (List·Memᴰ·cases-cons (subst (List·Memᴰ (w .0)) (places-first store count (checked .at-least)) (w .1)))
+
+-- the map call's rows and the verdicts of the held events give the text of the held set
+pub text-of-store : (store : Bytes) (count : ℕ) (rows : Bytes) (verdicts : List ℕ) → storeGood cordLimit store count ≡ true
+    → rows ≡ mapBytes (view (heldIn store count))
+    → verdicts ≡ map (λ e. verdict (view (heldIn store count)) (e .ident)) (heldIn store count)
+    → textOf rows verdicts ≡ roomText (view (heldIn store count))
+text-of-store store count rows verdicts t p q = text-of-set (heldIn store count) rows verdicts p q (rows-fit store count t)

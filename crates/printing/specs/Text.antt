@@ -36,28 +36,28 @@ digits zero n = []
 digits (suc k) n = digits k (n / 10) ++ (lastDigit n ∷ [])
 
 -- "LINKS "
-abbrev pub links-word : Bytes
-links-word = 76 ∷ 73 ∷ 78 ∷ 75 ∷ 83 ∷ 32 ∷ []
+abbrev pub linksWord : Bytes
+linksWord = 76 ∷ 73 ∷ 78 ∷ 75 ∷ 83 ∷ 32 ∷ []
 
 -- " WAITING "
-abbrev pub waiting-word : Bytes
-waiting-word = 32 ∷ 87 ∷ 65 ∷ 73 ∷ 84 ∷ 73 ∷ 78 ∷ 71 ∷ 32 ∷ []
+abbrev pub waitingWord : Bytes
+waitingWord = 32 ∷ 87 ∷ 65 ∷ 73 ∷ 84 ∷ 73 ∷ 78 ∷ 71 ∷ 32 ∷ []
 
 -- " UNSOUND "
-abbrev pub unsound-word : Bytes
-unsound-word = 32 ∷ 85 ∷ 78 ∷ 83 ∷ 79 ∷ 85 ∷ 78 ∷ 68 ∷ 32 ∷ []
+abbrev pub unsoundWord : Bytes
+unsoundWord = 32 ∷ 85 ∷ 78 ∷ 83 ∷ 79 ∷ 85 ∷ 78 ∷ 68 ∷ 32 ∷ []
 
 -- " VOID "
-abbrev pub void-word : Bytes
-void-word = 32 ∷ 86 ∷ 79 ∷ 73 ∷ 68 ∷ 32 ∷ []
+abbrev pub voidWord : Bytes
+voidWord = 32 ∷ 86 ∷ 79 ∷ 73 ∷ 68 ∷ 32 ∷ []
 
 -- "REFUSED "
-abbrev pub refused-word : Bytes
-refused-word = 82 ∷ 69 ∷ 70 ∷ 85 ∷ 83 ∷ 69 ∷ 68 ∷ 32 ∷ []
+abbrev pub refusedWord : Bytes
+refusedWord = 82 ∷ 69 ∷ 70 ∷ 85 ∷ 83 ∷ 69 ∷ 68 ∷ 32 ∷ []
 
 -- "Each line, the refusal's too, ends in a line feed."
-abbrev pub line-feed : Bytes
-line-feed = 10 ∷ []
+abbrev pub lineFeed : Bytes
+lineFeed = 10 ∷ []
 
 abbrev pub space : Bytes
 space = 32 ∷ []
@@ -68,18 +68,18 @@ field word n = word ++ decimal n
 
 -- "a refusal writes "REFUSED " and the number"
 unfoldable pub refusalLine : ℕ → Bytes
-refusalLine n = field refused-word n ++ line-feed
+refusalLine n = field refusedWord n ++ lineFeed
 
 -- "The first line counts links and verdicts, without leading zeros"
 unfoldable pub headLine : ℕ → ℕ → ℕ → ℕ → Bytes
 headLine links waiting unsound void =
-    field links-word links ++ field waiting-word waiting ++ field unsound-word unsound ++ field void-word void ++ line-feed
+    field linksWord links ++ field waitingWord waiting ++ field unsoundWord unsound ++ field voidWord void ++ lineFeed
 
 -- "then one line a map row, ports, kinds, metres, in decimal, filled with zeros to 4, 2 and 5 digits"
 unfoldable pub rowLine : Cord → Bytes
 rowLine c =
     digits 4 (portA c) ++ space ++ digits 4 (portB c) ++ space ++ digits 2 (kindA c) ++ space ++ digits 2 (kindB c) ++ space
-    ++ digits 5 (c .metres) ++ line-feed
+    ++ digits 5 (c .metres) ++ lineFeed
 
 -- the whole text: the numbers of waiting, unsound and void events, and the map's rows
 unfoldable pub textFrom : ℕ → ℕ → ℕ → List Cord → Bytes

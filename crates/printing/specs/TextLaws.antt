@@ -30,7 +30,8 @@ unfolding decimalIn
 enough zero g n h k = let z : ⊥ = omega arith in absurd z
 enough (suc f) zero n h k = let z : ⊥ = omega arith in absurd z
 enough (suc f) (suc g) n h k =
-    byBool (ltb n 10) (λ t. rw t) (λ t. let l : 10 ≤ n = ltb-false n 10 t in rw (t, enough f g (n / 10) (omega arith) (omega arith)))
+    byBool (ltb n 10) (λ t. rw t)
+    (λ t. let l : 10 ≤ n = ltb-false n 10 t in rw (t, enough f g (n / 10) (omega arith) (omega arith)))
 
 -- a number below 10 is one digit
 pub decimal-one : (n : ℕ) → n < 10 → decimal n ≡ (48 + n) ∷ []
@@ -80,7 +81,10 @@ rows-back cs h =
     let l = map mapRow cs in
     let wide : AllOfLength 8 l = λ x m. let r = Memᴰ·of-map mapRow cs m in ap length (sym (r .2)) ∙ row-length (r .0) in
     let size : length (flatten l) / 8 ≡ length l = omega (arith, length-flatten 8 l wide) in
-    rw size (ap (λ (s : Bytes). map rowCord (chunks 8 s (length l))) (sym (append-nil (flatten l))) ∙ ap (map rowCord) (chunks-flatten 8 l [] wide) ∙ all-back cs h)
+    rw size
+    (ap (λ (s : Bytes). map rowCord (chunks 8 s (length l))) (sym (append-nil (flatten l)))
+    ∙ ap (map rowCord) (chunks-flatten 8 l [] wide)
+    ∙ all-back cs h)
 
 -- ── the text of a set of events ──────────────────────────────────────────────────────────────────────────────────────────────
 
@@ -109,8 +113,8 @@ module _ {A : Type 0} where
       many l = ap length (keep-map (λ x. eqb x k) f l) ∙ length-map (keep (λ x. eqb (f x) k) l) f
 
 -- from the map call's rows and the verdicts of the events, in any order, comes the text of the set
-pub text-of-set : (s : List Event) (rows : Bytes) (verdicts : List ℕ) → rows ≡ mapBytes (view s) → verdicts ≡ map (λ e. verdict (view s) (e .ident)) s
-    → ((c : Cord) → List·Memᴰ c (mapRows (view s)) → Fits c) → textOf rows verdicts ≡ roomText (view s)
+pub text-of-set : (s : List Event) (rows : Bytes) (verdicts : List ℕ) → rows ≡ mapBytes (view s)
+    → verdicts ≡ map (λ e. verdict (view s) (e .ident)) s → ((c : Cord) → List·Memᴰ c (mapRows (view s)) → Fits c) → textOf rows verdicts ≡ roomText (view s)
 unfolding textOf roomText mapBytes
 text-of-set s rows verdicts p q h =
     rw (

@@ -10,7 +10,7 @@ use lib.Dec.{eqb, ltb}
 use lib.ListN.{length, getD, set, length-set, List·getD-eq-default}
 use lib.Pow.{pow-lt, pow-add, shl-shr, shl-exact}
 use lib.Seq.{getD-set-same, getD-set-other}
-use borrow.Author.Tests.{eqb-true, eqb-false, eq-eqb, ne-eqb, ltb-true, ltb-false, lt-ltb, le-ltb}
+use borrow.Author.Tests.{eqb-true, eqb-false, eq-eqb, ne-eqb, ltb-true, ltb-false, lt-ltb}
 use Rattle.lists.specs.Cases.{byBool, bool-eq, and→}
 use Rattle.tables.specs.Bits.{bitAt}
 
@@ -32,17 +32,17 @@ digits f g p q r s a b h l =
     (λ u. let d : b ≡ 0 = eqb-true b 0 u in rw (e, d) r)
     (λ v. let n : b ≡ 0 → ⊥ = eqb-false b 0 v in let d : b ≡ 1 = omega arith in rw (e, d) s))
 
-pub or-bit : (x y b : ℕ) → bit (bitOr x y) b ≡ (bit x b || bit y b)
+or-bit : (x y b : ℕ) → bit (bitOr x y) b ≡ (bit x b || bit y b)
 or-bit x y b =
     let e : bitOr x y / 2 ^ b % 2 ≡ bitOr (x / 2 ^ b % 2) (y / 2 ^ b % 2) = ap (λ z. z % 2) (or-shr x y b) ∙ or-mod (x / 2 ^ b) (y / 2 ^ b) 1 in
     rw e (digits (λ a d. eqb (bitOr a d) 1) (λ a d. eqb a 1 || eqb d 1) refl refl refl refl (x / 2 ^ b % 2) (y / 2 ^ b % 2) (omega arith) (omega arith))
 
-pub and-bit : (x y b : ℕ) → bit (bitAnd x y) b ≡ (bit x b && bit y b)
+and-bit : (x y b : ℕ) → bit (bitAnd x y) b ≡ (bit x b && bit y b)
 and-bit x y b =
     let e : bitAnd x y / 2 ^ b % 2 ≡ bitAnd (x / 2 ^ b % 2) (y / 2 ^ b % 2) = ap (λ z. z % 2) (and-shr x y b) ∙ and-mod (x / 2 ^ b) (y / 2 ^ b) 1 in
     rw e (digits (λ a d. eqb (bitAnd a d) 1) (λ a d. eqb a 1 && eqb d 1) refl refl refl refl (x / 2 ^ b % 2) (y / 2 ^ b % 2) (omega arith) (omega arith))
 
-pub zero-bit : (b : ℕ) → bit 0 b ≡ false
+zero-bit : (b : ℕ) → bit 0 b ≡ false
 zero-bit b = let e : 0 / 2 ^ b ≡ 0 = zero-div (2 ^ b) in rw e
 
 power-own : (j : ℕ) → bit (2 ^ j) j ≡ true
@@ -71,13 +71,13 @@ power-bit j b =
     let e : j ≡ suc (j - b - 1) + b = omega arith in
     rw f (ap (λ z. bit (2 ^ z) b) e ∙ power-above (j - b - 1) b)))
 
-pub one-bit : (j b : ℕ) → j < 64 → bit (1 * 2 ^ j % 2 ^ 64) b ≡ eqb b j
+one-bit : (j b : ℕ) → j < 64 → bit (1 * 2 ^ j % 2 ^ 64) b ≡ eqb b j
 one-bit j b h =
     let e : 1 * 2 ^ j % 2 ^ 64 ≡ 2 ^ j = shl-exact {a = 1} 1 j 64 (omega arith) (omega arith) ∙ one-mul (2 ^ j) in
     rw e (power-bit j b)
 
 -- every bit of the greatest word is set
-pub ones-bit : (b : ℕ) → b < 64 → bit 18446744073709551615 b ≡ true
+ones-bit : (b : ℕ) → b < 64 → bit 18446744073709551615 b ≡ true
 ones-bit b h =
     let m : bitAnd (2 ^ b) 18446744073709551615 ≡ 2 ^ b = and-mask (2 ^ b) 64 ∙ ap (λ z. z % 2 ^ 64) (sym (one-mul (2 ^ b)))
     ∙ shl-exact {a = 1} 1 b 64 (omega arith) (omega arith) ∙ one-mul (2 ^ b) in
@@ -87,7 +87,7 @@ ones-bit b h =
 -- ── rows ────────────────────────────────────────────────────────────────────────────────────────────────────────────────
 
 -- rows with equal words have equal bits
-pub same-row : (R S : List ℕ) (a c : ℕ) → ((i : ℕ) → i < 4 → getD R (a * 4 + i) 0 ≡ getD S (c * 4 + i) 0) → (b : ℕ) → bitAt R a b ≡ bitAt S c b
+same-row : (R S : List ℕ) (a c : ℕ) → ((i : ℕ) → i < 4 → getD R (a * 4 + i) 0 ≡ getD S (c * 4 + i) 0) → (b : ℕ) → bitAt R a b ≡ bitAt S c b
 unfolding bitAt
 same-row R S a c h b =
     byBool (ltb b 256) (λ t. let l : b < 256 = ltb-true b 256 t in rw (t, h (b / 64) (omega arith))) (λ f. rw f)
@@ -98,10 +98,6 @@ unfolding bitAt
 bit-outside R k j h =
     let e : getD R (k * 4 + j / 64) 0 ≡ 0 = List·getD-eq-default R 0 h in
     rw (e, zero-bit (j % 64)) (and-false (ltb j 256))
-
-pub bit-high : (R : List ℕ) (k j : ℕ) → 256 ≤ j → bitAt R k j ≡ false
-unfolding bitAt
-bit-high R k j h = rw (le-ltb j 256 h)
 
 pub bit-inside : (R : List ℕ) (k j : ℕ) → j < 256 → bitAt R k j ≡ bit (getD R (k * 4 + j / 64) 0) (j % 64)
 unfolding bitAt
@@ -149,10 +145,7 @@ bit-inserted R k j h l a b =
     let g : 256 ≤ b = ltb-false b 256 f in
     rw (f, ne-eqb b j (λ z. omega arith), and-false (eqb a k)))
 
--- ── four words at once ──────────────────────────────────────────────────────────────────────────────────────────────────
-
-abbrev pub placed : List ℕ → ℕ → ℕ → ℕ → ℕ → ℕ → List ℕ
-placed R i x y z w = set (set (set (set R i x) (i + 1) y) (i + 2) z) (i + 3) w
+-- ── a row written ───────────────────────────────────────────────────────────────────────────────────────────────────────
 
 entry : (R : List ℕ) (i v p : ℕ) → i < length R → getD (set R i v) p 0 ≡ cond (eqb p i) v (getD R p 0)
 entry R i v p h =
@@ -160,34 +153,31 @@ entry R i v p h =
     (λ t. let q : p ≡ i = eqb-true p i t in rw (t, q) (getD-set-same R i v 0 h))
     (λ f. rw f (getD-set-other R i p v 0 (eqb-false p i f)))
 
-placed-at : (R : List ℕ) (i x y z w : ℕ) → i + 3 < length R → (p : ℕ)
-    → getD (placed R i x y z w) p 0 ≡ cond (eqb p (i + 3)) w (cond (eqb p (i + 2)) z (cond (eqb p (i + 1)) y (cond (eqb p i) x (getD R p 0))))
-placed-at R i x y z w h p =
-    let A = set R i x in
-    let B = set A (i + 1) y in
-    let C = set B (i + 2) z in
-    let la : length A ≡ length R = length-set R i x in
-    let lb : length B ≡ length A = length-set A (i + 1) y in
-    let lc : length C ≡ length B = length-set B (i + 2) z in
-    rw (entry C (i + 3) w p (omega arith), entry B (i + 2) z p (omega arith), entry A (i + 1) y p (omega arith), entry R i x p (omega arith))
+-- R with the words of r in row k
+abbrev pub withRow : List ℕ → List ℕ → ℕ → List ℕ
+withRow R r k =
+    set (set (set (set R (k * 4) (getD r 0 0)) (k * 4 + 1) (getD r 1 0)) (k * 4 + 2) (getD r 2 0)) (k * 4 + 3) (getD r 3 0)
 
--- row k of R with each word changed by that of r
-abbrev pub changedRow : (ℕ → ℕ → ℕ) → List ℕ → List ℕ → ℕ → List ℕ
-changedRow op R r k =
-    placed R (k * 4) (op (getD R (k * 4) 0) (getD r 0 0)) (op (getD R (k * 4 + 1) 0) (getD r 1 0))
-    (op (getD R (k * 4 + 2) 0) (getD r 2 0)) (op (getD R (k * 4 + 3) 0) (getD r 3 0))
-
-module _ (op : ℕ → ℕ → ℕ) (R r : List ℕ) (k : ℕ) (h : k * 4 + 4 ≤ length R) where
-  at : (p : ℕ) → getD (changedRow op R r k) p 0
-      ≡ cond (eqb p (k * 4 + 3)) (op (getD R (k * 4 + 3) 0) (getD r 3 0))
-      (cond (eqb p (k * 4 + 2)) (op (getD R (k * 4 + 2) 0) (getD r 2 0))
-      (cond (eqb p (k * 4 + 1)) (op (getD R (k * 4 + 1) 0) (getD r 1 0)) (cond (eqb p (k * 4)) (op (getD R (k * 4) 0) (getD r 0 0)) (getD R p 0))))
+module _ (R r : List ℕ) (k : ℕ) (h : k * 4 + 4 ≤ length R) where
+  at : (p : ℕ) → getD (withRow R r k) p 0
+      ≡ cond (eqb p (k * 4 + 3)) (getD r 3 0)
+      (cond (eqb p (k * 4 + 2)) (getD r 2 0) (cond (eqb p (k * 4 + 1)) (getD r 1 0) (cond (eqb p (k * 4)) (getD r 0 0) (getD R p 0))))
   at p =
-      placed-at R (k * 4) (op (getD R (k * 4) 0) (getD r 0 0)) (op (getD R (k * 4 + 1) 0) (getD r 1 0))
-      (op (getD R (k * 4 + 2) 0) (getD r 2 0)) (op (getD R (k * 4 + 3) 0) (getD r 3 0)) (omega arith) p
+      let A = set R (k * 4) (getD r 0 0) in
+      let B = set A (k * 4 + 1) (getD r 1 0) in
+      let C = set B (k * 4 + 2) (getD r 2 0) in
+      let la : length A ≡ length R = length-set R (k * 4) (getD r 0 0) in
+      let lb : length B ≡ length A = length-set A (k * 4 + 1) (getD r 1 0) in
+      let lc : length C ≡ length B = length-set B (k * 4 + 2) (getD r 2 0) in
+      rw (
+        entry C (k * 4 + 3) (getD r 3 0) p (omega arith),
+        entry B (k * 4 + 2) (getD r 2 0) p (omega arith),
+        entry A (k * 4 + 1) (getD r 1 0) p (omega arith),
+        entry R (k * 4) (getD r 0 0) p (omega arith),
+      )
 
-  changed-in : (i : ℕ) → i < 4 → getD (changedRow op R r k) (k * 4 + i) 0 ≡ op (getD R (k * 4 + i) 0) (getD r i 0)
-  changed-in zero l =
+  written : (i : ℕ) → i < 4 → getD (withRow R r k) (k * 4 + i) 0 ≡ getD r (0 * 4 + i) 0
+  written zero l =
       rw (add-zero (k * 4))
       (at (k * 4)
       ∙ rw (
@@ -196,16 +186,16 @@ module _ (op : ℕ → ℕ → ℕ) (R r : List ℕ) (k : ℕ) (h : k * 4 + 4 �
         ne-eqb (k * 4) (k * 4 + 1) (λ q. omega arith),
         eq-eqb (k * 4) (k * 4) refl,
       ))
-  changed-in (suc zero) l =
+  written (suc zero) l =
       at (k * 4 + 1)
       ∙ rw (ne-eqb (k * 4 + 1) (k * 4 + 3) (λ q. omega arith), ne-eqb (k * 4 + 1) (k * 4 + 2) (λ q. omega arith), eq-eqb (k * 4 + 1) (k * 4 + 1) refl)
-  changed-in (suc (suc zero)) l =
+  written (suc (suc zero)) l =
       at (k * 4 + 2) ∙ rw (ne-eqb (k * 4 + 2) (k * 4 + 3) (λ q. omega arith), eq-eqb (k * 4 + 2) (k * 4 + 2) refl)
-  changed-in (suc (suc (suc zero))) l = at (k * 4 + 3) ∙ rw (eq-eqb (k * 4 + 3) (k * 4 + 3) refl)
-  changed-in (suc (suc (suc (suc i)))) l = let f : suc (suc (suc (suc i))) < 4 = l in let z : ⊥ = omega arith in absurd z
+  written (suc (suc (suc zero))) l = at (k * 4 + 3) ∙ rw (eq-eqb (k * 4 + 3) (k * 4 + 3) refl)
+  written (suc (suc (suc (suc i)))) l = let f : suc (suc (suc (suc i))) < 4 = l in let z : ⊥ = omega arith in absurd z
 
-  changed-out : (a i : ℕ) → (a ≡ k → ⊥) → i < 4 → getD (changedRow op R r k) (a * 4 + i) 0 ≡ getD R (a * 4 + i) 0
-  changed-out a i n l =
+  kept : (a i : ℕ) → (a ≡ k → ⊥) → i < 4 → getD (withRow R r k) (a * 4 + i) 0 ≡ getD R (a * 4 + i) 0
+  kept a i n l =
       at (a * 4 + i)
       ∙ rw (
         ne-eqb (a * 4 + i) (k * 4 + 3) (λ q. n (omega arith)),
@@ -214,58 +204,59 @@ module _ (op : ℕ → ℕ → ℕ) (R r : List ℕ) (k : ℕ) (h : k * 4 + 4 �
         ne-eqb (a * 4 + i) (k * 4) (λ q. n (omega arith)),
       )
 
-  -- the bits of that row are changed alike, and no others
-  module _ (on : Bool → Bool → Bool) (law : (x y b : ℕ) → bit (op x y) b ≡ on (bit x b) (bit y b)) (none : on false false ≡ false) where
-    pub changed-own : (b : ℕ) → bitAt (changedRow op R r k) k b ≡ on (bitAt R k b) (bitAt r 0 b)
-    unfolding bitAt
-    changed-own b =
-        byBool (ltb b 256)
-        (λ t.
-        let l : b < 256 = ltb-true b 256 t in
-        let z : 0 * 4 + b / 64 ≡ b / 64 = omega arith in
-        rw (t, changed-in (b / 64) (omega arith), z) (law (getD R (k * 4 + b / 64) 0) (getD r (b / 64) 0) (b % 64)))
-        (λ f. rw f (sym none))
+  pub row-set : (a b : ℕ) → bitAt (withRow R r k) a b ≡ cond (eqb a k) (bitAt r 0 b) (bitAt R a b)
+  row-set a b =
+      byBool (eqb a k)
+      (λ t. let q : a ≡ k = eqb-true a k t in rw (t, q) (same-row (withRow R r k) r k 0 written b))
+      (λ f. rw f (same-row (withRow R r k) R a a (λ i l. kept a i (eqb-false a k f) l) b))
 
-    pub changed-other : (a b : ℕ) → (a ≡ k → ⊥) → bitAt (changedRow op R r k) a b ≡ bitAt R a b
-    changed-other a b n = same-row (changedRow op R r k) R a a (λ i l. changed-out a i n l) b
+-- ── two rows put together ───────────────────────────────────────────────────────────────────────────────────────────────
 
-pub united : (R r : List ℕ) (k : ℕ) → k * 4 + 4 ≤ length R → (a b : ℕ)
-    → bitAt (changedRow bitOr R r k) a b ≡ (bitAt R a b || (eqb a k && bitAt r 0 b))
-united R r k h a b =
+-- the words of row k of R, each with that of r
+abbrev pub together : (ℕ → ℕ → ℕ) → List ℕ → List ℕ → ℕ → List ℕ
+together op R r k =
+    op (getD R (k * 4) 0) (getD r 0 0)
+    ∷ op (getD R (k * 4 + 1) 0) (getD r 1 0)
+    ∷ op (getD R (k * 4 + 2) 0) (getD r 2 0)
+    ∷ op (getD R (k * 4 + 3) 0) (getD r 3 0)
+    ∷ []
+
+word : (op : ℕ → ℕ → ℕ) (R r : List ℕ) (k i : ℕ) → i < 4 → getD (together op R r k) (0 * 4 + i) 0 ≡ op (getD R (k * 4 + i) 0) (getD r (0 * 4 + i) 0)
+word op R r k zero l = rw (add-zero (k * 4))
+word op R r k (suc zero) l = refl
+word op R r k (suc (suc zero)) l = refl
+word op R r k (suc (suc (suc zero))) l = refl
+word op R r k (suc (suc (suc (suc i)))) l = let f : suc (suc (suc (suc i))) < 4 = l in let z : ⊥ = omega arith in absurd z
+
+-- their bits are put together alike
+together-bit : (op : ℕ → ℕ → ℕ) (on : Bool → Bool → Bool) → ((x y b : ℕ) → bit (op x y) b ≡ on (bit x b) (bit y b))
+    → on false false ≡ false → (R r : List ℕ) (k b : ℕ) → bitAt (together op R r k) 0 b ≡ on (bitAt R k b) (bitAt r 0 b)
+unfolding bitAt
+together-bit op on law none R r k b =
+    byBool (ltb b 256)
+    (λ t.
+    let l : b < 256 = ltb-true b 256 t in
+    rw (t, word op R r k (b / 64) (omega arith)) (law (getD R (k * 4 + b / 64) 0) (getD r (0 * 4 + b / 64) 0) (b % 64)))
+    (λ f. rw f (sym none))
+
+-- N is R with such a row in place of row k
+pub united : (R r N : List ℕ) (k : ℕ)
+    → ((a b : ℕ) → bitAt N a b ≡ cond (eqb a k) (bitAt (together bitOr R r k) 0 b) (bitAt R a b))
+    → (a b : ℕ) → bitAt N a b ≡ (bitAt R a b || (eqb a k && bitAt r 0 b))
+united R r N k h a b =
     byBool (eqb a k)
-    (λ t. let q : a ≡ k = eqb-true a k t in rw (t, q) (changed-own bitOr R r k h _||_ or-bit refl b))
-    (λ f. rw f (changed-other bitOr R r k h _||_ or-bit refl a b (eqb-false a k f) ∙ sym (or-false (bitAt R a b))))
+    (λ t. let q : a ≡ k = eqb-true a k t in h a b ∙ rw (t, q) (together-bit bitOr _||_ or-bit refl R r k b))
+    (λ f. h a b ∙ rw f (sym (or-false (bitAt R a b))))
 
-pub met : (R r : List ℕ) (k : ℕ) → k * 4 + 4 ≤ length R → (a b : ℕ)
-    → bitAt (changedRow bitAnd R r k) a b ≡ (bitAt R a b && (not (eqb a k) || bitAt r 0 b))
-met R r k h a b =
+pub met : (R r N : List ℕ) (k : ℕ)
+    → ((a b : ℕ) → bitAt N a b ≡ cond (eqb a k) (bitAt (together bitAnd R r k) 0 b) (bitAt R a b))
+    → (a b : ℕ) → bitAt N a b ≡ (bitAt R a b && (not (eqb a k) || bitAt r 0 b))
+met R r N k h a b =
     byBool (eqb a k)
-    (λ t. let q : a ≡ k = eqb-true a k t in rw (t, q) (changed-own bitAnd R r k h _&&_ and-bit refl b))
-    (λ f. rw f (changed-other bitAnd R r k h _&&_ and-bit refl a b (eqb-false a k f) ∙ sym (and-true (bitAt R a b))))
+    (λ t. let q : a ≡ k = eqb-true a k t in h a b ∙ rw (t, q) (together-bit bitAnd _&&_ and-bit refl R r k b))
+    (λ f. h a b ∙ rw f (sym (and-true (bitAt R a b))))
 
 -- a row alone
 pub copied : (R : List ℕ) (k : ℕ) (j : ℕ)
     → bitAt (getD R (k * 4) 0 ∷ getD R (k * 4 + 1) 0 ∷ getD R (k * 4 + 2) 0 ∷ getD R (k * 4 + 3) 0 ∷ []) 0 j ≡ bitAt R k j
-copied R k j = same-row (getD R (k * 4) 0 ∷ getD R (k * 4 + 1) 0 ∷ getD R (k * 4 + 2) 0 ∷ getD R (k * 4 + 3) 0 ∷ []) R 0 k word j
-  where
-    word : (i : ℕ) → i < 4
-        → getD (getD R (k * 4) 0 ∷ getD R (k * 4 + 1) 0 ∷ getD R (k * 4 + 2) 0 ∷ getD R (k * 4 + 3) 0 ∷ []) (0 * 4 + i) 0 ≡ getD R (k * 4 + i) 0
-    word zero l = rw (add-zero (k * 4))
-    word (suc zero) l = refl
-    word (suc (suc zero)) l = refl
-    word (suc (suc (suc zero))) l = refl
-    word (suc (suc (suc (suc i)))) l = let f : suc (suc (suc (suc i))) < 4 = l in let z : ⊥ = omega arith in absurd z
-
--- ── filling a table ─────────────────────────────────────────────────────────────────────────────────────────────────────
-
--- one entry more of a table that a loop fills with v
-pub filled-more : (T : List ℕ) (i v : ℕ) → i < length T → ((k : ℕ) → k < i → getD T k 0 ≡ v) → (k : ℕ) → k < i + 1 → getD (set T i v) k 0 ≡ v
-filled-more T i v l h k lk =
-    byBool (eqb k i)
-    (λ t. let q : k ≡ i = eqb-true k i t in rw q (getD-set-same T i v 0 l))
-    (λ g. let ne : k ≡ i → ⊥ = eqb-false k i g in getD-set-other T i k v 0 ne ∙ h k (omega arith))
-
--- zeros as far as the table goes are zeros everywhere
-pub zeros-all : (T : List ℕ) → ((k : ℕ) → k < length T → getD T k 0 ≡ 0) → (k : ℕ) → getD T k 0 ≡ 0
-zeros-all T h k =
-    byBool (ltb k (length T)) (λ t. h k (ltb-true k (length T) t)) (λ f. List·getD-eq-default T 0 (ltb-false k (length T) f))
+copied R k j = same-row (together (λ x y. x) R [] k) R 0 k (word (λ x y. x) R [] k) j

@@ -1,6 +1,6 @@
 // Working tables: u16 entries, and rows of bits.
 ghost use mathlib.Core.Path.{_≡_};
-ghost use mathlib.Core.Bool.{_&&_, _||_, not, true, false};
+ghost use mathlib.Core.Bool.{_&&_, _||_, not, cond, true, false};
 ghost use Prim.Native.Nat.{ℕ, _+_, _*_, _<_, _≤_};
 ghost use lib.Dec.{eqb};
 ghost use lib.ListN.{length, getD};
@@ -25,26 +25,40 @@ pub fn clear(table: &mut [u16])
     }
 }
 
+// Takes every entry away.
+pub fn clear_bytes(table: &mut [u8])
+    ensures { λ _. ⌜ ((i : ℕ) → getD (now (table .exit)) i 0 ≡ 0) ⌝ }
+{
+    let mut i = 0;
+    while i < table.len() {
+        table[i] = 0;
+        i += 1;
+    }
+}
+
+// Makes every word the one given.
+fn fill(rows: &mut [u64], word: u64)
+    ensures { λ _. ⌜ ((i : ℕ) → i < length (now (rows .entry)) → getD (now (rows .exit)) i 0 ≡ word) ⌝ }
+{
+    let mut i = 0;
+    while i < rows.len() {
+        rows[i] = word;
+        i += 1;
+    }
+}
+
 // Takes every bit away.
 pub fn clear_rows(rows: &mut [u64])
     ensures { λ _. ⌜ ((k j : ℕ) → bitAt (now (rows .exit)) k j ≡ false) ⌝ }
 {
-    let mut i = 0;
-    while i < rows.len() {
-        rows[i] = 0;
-        i += 1;
-    }
+    fill(rows, 0);
 }
 
 // Sets every bit of every whole row.
 pub fn fill_rows(rows: &mut [u64])
     ensures { λ _. ⌜ ((k j : ℕ) → k * 4 + 4 ≤ length (now (rows .entry)) → j < 256 → bitAt (now (rows .exit)) k j ≡ true) ⌝ }
 {
-    let mut i = 0;
-    while i < rows.len() {
-        rows[i] = 18446744073709551615;
-        i += 1;
-    }
+    fill(rows, 18446744073709551615);
 }
 
 // Bit j of row k; false where there is none.
@@ -79,6 +93,18 @@ pub fn insert(rows: &mut [u64], k: u16, j: u16)
     rows[i] = rows[i] | 1 << (j % 64);
 }
 
+// Makes row k the one given.
+fn set_row(rows: &mut [u64], k: u16, row: [u64; 4])
+    requires { ⌜ k * 4 + 4 ≤ length (now rows) ⌝ }
+    ensures { λ _. ⌜ ((a b : ℕ) → bitAt (now (rows .exit)) a b ≡ cond (eqb a k) (bitAt row 0 b) (bitAt (now (rows .entry)) a b)) ⌝ }
+{
+    let i = (k as usize) * 4;
+    rows[i] = row[0];
+    rows[i + 1] = row[1];
+    rows[i + 2] = row[2];
+    rows[i + 3] = row[3];
+}
+
 // Sets each bit of row k that the row given has.
 pub fn unite(rows: &mut [u64], k: u16, row: [u64; 4])
     requires { ⌜ k * 4 + 4 ≤ length (now rows) ⌝ }
@@ -89,10 +115,7 @@ pub fn unite(rows: &mut [u64], k: u16, row: [u64; 4])
     let b = rows[i + 1] | row[1];
     let c = rows[i + 2] | row[2];
     let d = rows[i + 3] | row[3];
-    rows[i] = a;
-    rows[i + 1] = b;
-    rows[i + 2] = c;
-    rows[i + 3] = d;
+    set_row(rows, k, [a, b, c, d]);
 }
 
 // Takes away each bit of row k that the row given does not have.
@@ -105,8 +128,5 @@ pub fn meet(rows: &mut [u64], k: u16, row: [u64; 4])
     let b = rows[i + 1] & row[1];
     let c = rows[i + 2] & row[2];
     let d = rows[i + 3] & row[3];
-    rows[i] = a;
-    rows[i + 1] = b;
-    rows[i + 2] = c;
-    rows[i + 3] = d;
+    set_row(rows, k, [a, b, c, d]);
 }

@@ -20,10 +20,8 @@ use lib.Dec.{eqb, ltb}
 use lib.ListN.{getD, take}
 use borrow.Author.Tests.{eqb-true, eqb-false, eq-eqb, ne-eqb, ltb-true, lt-ltb}
 use Rattle.lists.specs.Cases.{byBool, clash, bool-eq, and→, and←, or→, or←l, or←r}
-use Rattle.lists.specs.Bytes.{Bytes, same←}
+use Rattle.lists.specs.Bytes.{Bytes}
 use Rattle.lists.specs.Tests.{memberOf, member→, member←}
-use Rattle.octets.specs.Octets.{part}
-use Rattle.sha256.specs.Sha256.{sha256}
 use Rattle.event.specs.Fields.{kindOf}
 use Rattle.model.specs.Events.{Id, Event, isCreate, isRevoke}
 use Rattle.model.specs.Heights.{findIn, View, view, settled, ancestor}
@@ -31,23 +29,21 @@ use Rattle.model.specs.Verdicts.{line, sound, effective, void, verdict}
 use Rattle.model.specs.HeightLaws.{settled→, height-found}
 use Rattle.model.specs.AncestryLaws.{ancestor-settled}
 use Rattle.model.specs.LineLaws.{line-creator, on-line}
-use Rattle.model.specs.SetLaws.{DistinctIds, find→}
+use Rattle.model.specs.SetLaws.{find→}
 use Rattle.model.specs.SoundLaws.{sound-settled, sound-creator, sound→, presents}
 use Rattle.model.specs.VoidLaws.{Struck as StruckEvent, EffectiveBy, effective-unique}
 use Rattle.model.specs.Store.{eventOf, heldIn}
-use Rattle.model.specs.StoreLaws.{checked→, checked-held, creator→}
-use Rattle.model.specs.Packing.{kind-other, held-set}
+use Rattle.model.specs.StoreLaws.{checked→}
+use Rattle.model.specs.Packing.{kind-other}
 use Rattle.store.specs.Tables.{slotIn}
 use Rattle.history.specs.Parents.{eventAt, placeBy}
-use Rattle.history.specs.LevelLaws.{bySlot, id-at, slot-at, find-at, creates, later}
+use Rattle.history.specs.LevelLaws.{bySlot, distinct-held, own-place, creator-at, creates, later}
 use Rattle.history.specs.Order.{ranked}
 use Rattle.history.specs.OrderLaws.{ranked→, ranked←}
-use Rattle.history.specs.Placed.{heldAt, place-of, held-at, listed→, listed←, level-low}
-use Rattle.ancestry.specs.Ancestors.{idOf}
-use Rattle.ancestry.specs.AncestorLaws.{same-place}
+use Rattle.history.specs.Placed.{heldAt, idOf, place-of, held-at, listed→, listed←, one-id, level-low}
 use Rattle.authority.specs.Lines.{Authority}
 use Rattle.authority.specs.KindLaws.{revoke-kind}
-use Rattle.authority.specs.PlaceLaws.{Tables, few, found, level-is, level-of, lower}
+use Rattle.authority.specs.PlaceLaws.{Tables, few, found, place-at, level-is, level-of, lower}
 use Rattle.verdicts.specs.Effects.{Graded, Struck, Effects}
 use Rattle.verdicts.specs.Verdicts.{rankOf, RankTable, verdictOf, VerdictTable}
 
@@ -63,12 +59,8 @@ module _ {entry : ℕ → ℕ → ℕ} {store : Bytes} {n : ℕ} {ids : Bytes} {
   abbrev seen : View
   seen = view (heldIn store n)
 
-  distinct : DistinctIds held
-  distinct = held-set entry store n (tables .good) .1 .distinct
-
   same-id : (p k : ℕ) → p < n → k < n → idOf store p ≡ idOf store k → p ≡ k
-  same-id p k a b e =
-      eqb-true p k (same-place entry store n (tables .good) ids index (tables .indexed) p k a b ∙ same← (idOf store p) (idOf store k) e)
+  same-id = one-id entry store n (tables .good) ids index (tables .indexed)
 
   -- a sound place other than the creator's
   record Later (k : ℕ) : Type 0 where
@@ -89,9 +81,7 @@ module _ {entry : ℕ → ℕ → ℕ} {store : Bytes} {n : ℕ} {ids : Bytes} {
   first-low = omega (arith, checked→ entry store n (tables .good) .at-least)
 
   first-kind : kindOf (eventAt store 0) ≡ 0
-  first-kind =
-      let place = checked-held entry store n (checked→ entry store n (tables .good)) .creator-good in
-      eqb-true (kindOf (eventAt store 0)) 0 (creator→ (part store 0 192) place .0)
+  first-kind = eqb-true (kindOf (eventAt store 0)) 0 (creator-at entry store n (tables .good) ids index (tables .indexed) .0)
 
   first-line : line seen (idOf store 0) ≡ []
   first-line = line-creator held (idOf store 0) (heldAt store 0) (found tables 0 first-low) (creates entry store n (tables .good) ids index (tables .indexed))
@@ -286,9 +276,6 @@ module _ {entry : ℕ → ℕ → ℕ} {store : Bytes} {n : ℕ} {ids : Bytes} {
         above : (k : ℕ) → Later k → Later (getD Q k 0) → List·Memᴰ (getD Q k 0) byRank × (getD R (getD Q k 0) 0 < getD R k 0)
         above k a b = (in-list (getD Q k 0) b, omega (arith, rank-is (getD Q k 0) b, rank-is k a, presented-lower (getD Q k 0) b))
 
-    pub listed-low : (k : ℕ) → List·Memᴰ k byRank → (k < n) × (getD Q k 0 < n)
-    listed-low k m = (of-list k m .low, presented-of k (of-list k m) .low)
-
     -- ── the table of effects ──────────────────────────────────────────────────────────────────────────────────────────
 
     module _ (E : List ℕ) (law : Effects (onLine store n) G M byRank E) where
@@ -298,10 +285,7 @@ module _ {entry : ℕ → ℕ → ℕ} {store : Bytes} {n : ℕ} {ids : Bytes} {
 
       byTable-at : (k : ℕ) → k < n → byTable (idOf store k) ≡ eqb (getD E k 0) 1
       unfolding eventOf
-      byTable-at k h =
-          let place : placeBy n ids index (sha256 (eventAt store k)) ≡ k =
-          rw (sym (id-at entry store n (tables .good) ids index (tables .indexed) k h), slot-at entry store n (tables .good) ids index (tables .indexed) k h) in
-          ap (λ (p : ℕ). eqb (getD E p 0) 1) place
+      byTable-at k h = ap (λ (p : ℕ). eqb (getD E p 0) 1) (own-place entry store n (tables .good) ids index (tables .indexed) k h)
 
       -- an id that is found is that of a place
       held-place : (i : Id) (e : Event) → findIn held i ≡ some e → (p : ℕ) × (p < n) × (i ≡ idOf store p)
@@ -370,10 +354,9 @@ module _ {entry : ℕ → ℕ → ℕ} {store : Bytes} {n : ℕ} {ids : Bytes} {
       only-sound i y =
           bySlot (slotIn ids 0 (take n index) i)
           (λ p s.
-          let w = find-at entry store n (tables .good) ids index (tables .indexed) i p s in
-          let id = find→ held i (heldAt store p) (w .1) .1 in
-          ap (sound seen) (sym id)
-          ∙ effective-sound p (w .0) (eqb-true (getD E p 0) 1 (sym (byTable-at p (w .0)) ∙ ap byTable id ∙ y)))
+          let w = place-at tables i p s in
+          ap (sound seen) (sym (w .1))
+          ∙ effective-sound p (w .0) (eqb-true (getD E p 0) 1 (sym (byTable-at p (w .0)) ∙ ap byTable (w .1) ∙ y)))
           (λ g s.
           let out = law .others 256 (λ e. omega arith) (λ m. omega (arith, of-list 256 m .low, few tables)) in
           let one = eqb-true (getD E 256 0) 1 (rw s at y) in
@@ -414,8 +397,8 @@ module _ {entry : ℕ → ℕ → ℕ} {store : Bytes} {n : ℕ} {ids : Bytes} {
               ap byTable (w .2) ∙ byTable-at p (w .1) ∙ eq-eqb (getD E p 0) 1 one
 
       -- the table has 1 exactly where the event is effective
-      pub effect-at : (k : ℕ) → k < n → eqb (getD E k 0) 1 ≡ effective seen (idOf store k)
-      effect-at k h = sym (byTable-at k h) ∙ effective-unique held distinct byTable by-table (idOf store k)
+      effect-at : (k : ℕ) → k < n → eqb (getD E k 0) 1 ≡ effective seen (idOf store k)
+      effect-at k h = sym (byTable-at k h) ∙ effective-unique held (distinct-held entry store n (tables .good) ids index (tables .indexed)) byTable by-table (idOf store k)
 
       -- and the verdicts from it are the model's
       pub verdict-at : (Z : List ℕ) → VerdictTable n T S E Z → (k : ℕ) → k < n → getD Z k 0 ≡ verdict seen (idOf store k)

@@ -4,10 +4,10 @@ use native.Mathlib.Omega.{arith}
 use mathlib.Core.Path.{_≡_, sym, ap, _∙_, subst}
 use mathlib.Core.Bool.{Bool, true}
 use mathlib.Core.List.{List, _++_, List·Memᴰ}
-use lib.Dec.{eqb, ltb}
-use lib.ListN.{length, getD, take, length-take, List·getD-eq-default}
+use lib.Dec.{eqb}
+use lib.ListN.{length, getD, take, length-take}
 use lib.Seq.{take-take, take-at}
-use borrow.Author.Tests.{eqb-true, eqb-false, eq-eqb, ltb-true, ltb-false}
+use borrow.Author.Tests.{eqb-true, eqb-false, eq-eqb}
 use Rattle.lists.specs.Cases.{byBool}
 use Rattle.lists.specs.Bytes.{Bytes}
 use Rattle.cords.specs.Cords.{cordLimit}
@@ -18,6 +18,7 @@ use Rattle.history.specs.Levels.{Low, Fixed}
 use Rattle.history.specs.Order.{ofRank, ranked}
 use Rattle.history.specs.OrderLaws.{ranked→, rank-rest}
 use Rattle.history.specs.Placed.{index-ascends, listed→, level-low, settled-in, in-settled}
+use Rattle.tables.specs.Filling.{everywhere}
 use Rattle.ancestry.specs.Ancestors.{AncestorRows}
 use Rattle.ancestry.specs.AncestorLaws.{ancestor-bits}
 use Rattle.authority.specs.Sound.{PresentedTable, TargetTable, SoundTable}
@@ -44,13 +45,10 @@ module _ (n : ℕ) (places T Q S R : List ℕ) (judgeable : Judgeable n places T
 
   pub rank-low : length R ≡ 256 → Low R
   unfolding rankOf
-  rank-low long k =
-      byBool (ltb k 256)
-      (λ t. within (ltb-true k 256 t))
-      (λ f. let past : getD R k 0 ≡ 0 = List·getD-eq-default R 0 (omega (arith, long, ltb-false k 256 f)) in omega arith)
+  rank-low long = everywhere (λ (v : ℕ). v ≤ 256) R (omega arith) (λ k l. within k (omega (arith, l, long)))
     where
-      within : k < 256 → getD R k 0 ≤ 256
-      within h =
+      within : (k : ℕ) → k < 256 → getD R k 0 ≤ 256
+      within k h =
           byBool (eqb k 0)
           (λ t. let e : getD R k 0 ≡ 0 = ranks .entry k h ∙ rw t in omega arith)
           (λ f. byBool (eqb (getD S k 0) 1)
@@ -101,9 +99,9 @@ judged store ids n index P T M Q G S R l E Z t ranks e effects verdicts =
 -- the tables that the steps make
 pub tabled : (store : Bytes) (n : ℕ) (ids : Bytes) (index P T M Q G S l : List ℕ) → storeGood cordLimit store n ≡ true
     → TablesOf store n ids index → ParentTable store n ids index P → length T ≡ n → Fixed P T → l ≡ ranked T (take n index) 256
-    → AncestorRows P l M → length Q ≡ 256 → PresentedTable store n ids index M Q → length G ≡ 256 → TargetTable store n ids index M G
+    → AncestorRows P l M → PresentedTable store n ids index M Q → TargetTable store n ids index M G
     → SoundTable store P T Q G l S → Tabled store n ids index P T M Q G S
-tabled store n ids index P T M Q G S l good indexed parents long fixed e rows lq presents lg names sounds =
+tabled store n ids index P T M Q G S l good indexed parents long fixed e rows presents names sounds =
     record { tables = made; authority = authority made S l sounds settled-listed (λ k m. only k (subst (List·Memᴰ k) e m) .1) }
   where
     settled-listed : (k : ℕ) → k < n → (getD T k 0 ≡ 0 → ⊥) → List·Memᴰ k l
@@ -121,9 +119,7 @@ tabled store n ids index P T M Q G S l good indexed parents long fixed e rows lq
           long = long;
           fixed = fixed;
           ancestors = ancestor-bits cordLimit store n good ids index indexed P parents T long fixed M l rows settled-listed;
-          presented-long = lq;
           presents = presents;
-          targets-long = lg;
           names = names;
         }
 

@@ -1,37 +1,23 @@
 -- What a turn of the loop over the places does: the rows kept, and the effects.
 use Prim.Native.Nat.{ℕ, _+_, _<_, _≤_}
-use native.Mathlib.Numerals.{add-one}
 use native.Mathlib.Omega.{arith}
 use mathlib.Core.Path.{_≡_, refl, sym, ap, _∙_, subst}
 use mathlib.Core.Logic.{_⊎_, inl, inr, ⊎-elim}
-use mathlib.Core.Bool.{Bool, true, false, not, _&&_, _||_}
-use mathlib.Core.List.{
-  List,
-  [],
-  _∷_,
-  _++_,
-  List·Memᴰ,
-  List·Memᴰ·head,
-  List·Memᴰ·not-nil,
-  List·Memᴰ·append-cases,
-  List·Memᴰ·eq-of-singleton,
-  Memᴰ·append-left,
-  Memᴰ·append-right,
-  Memᴰ·cast,
-}
-use lib.Dec.{eqb, ltb}
-use lib.ListN.{length, getD, take, drop, set, take-append-drop, List·getD-eq-default}
-use lib.Seq.{take-suc, take-all, getD-set-same, getD-set-other}
-use borrow.Author.Tests.{eqb-true, eqb-false, eq-eqb, ne-eqb, ltb-true, ltb-false}
+use mathlib.Core.Bool.{Bool, true, false, not, _&&_, _||_, and-true}
+use mathlib.Core.List.{List, List·Memᴰ, List·Memᴰ·not-nil, Memᴰ·cast}
+use lib.Dec.{eqb}
+use lib.ListN.{length, getD, take, set}
+use lib.Seq.{take-all, getD-set-same, getD-set-other}
+use borrow.Author.Tests.{eqb-true, eq-eqb, ne-eqb}
 use Rattle.lists.specs.Cases.{byBool, clash, and→, and←, or→, or←l, or←r}
 use Rattle.lists.specs.Sorting.{mem-getD}
 use Rattle.tables.specs.Bits.{bitAt}
-use Rattle.authority.specs.Sound.{bit}
+use Rattle.tables.specs.Filling.{more→, more←, last, taken}
+use Rattle.authority.specs.Sound.{bit, bit-test}
 use Rattle.verdicts.specs.Effects.{ByRank, Graded, Struck, Effects, narrowed}
 
 bit-one : (b : Bool) → bit b ≡ 1 → b ≡ true
-bit-one true e = refl
-bit-one false e = let z : ⊥ = omega arith in absurd z
+bit-one b e = sym (bit-test b) ∙ eq-eqb (bit b) 1 e
 
 -- a → b, as a test
 implies→ : (a b : Bool) → (not a || b) ≡ true → a ≡ true → b ≡ true
@@ -41,25 +27,7 @@ implies← : (a b : Bool) → (a ≡ true → b ≡ true) → (not a || b) ≡ t
 implies← true b h = h refl
 implies← false b h = refl
 
--- one entry more of a table that a loop fills from the front
-pub table-more : (f : ℕ → ℕ) (T : List ℕ) (i v : ℕ) → i < length T → ((k : ℕ) → k < i → getD T k 0 ≡ f k) → v ≡ f i
-    → (k : ℕ) → k < i + 1 → getD (set T i v) k 0 ≡ f k
-table-more f T i v l h e k lk =
-    byBool (eqb k i)
-    (λ t. let q : k ≡ i = eqb-true k i t in rw q (getD-set-same T i v 0 l ∙ e))
-    (λ g. let ne : k ≡ i → ⊥ = eqb-false k i g in getD-set-other T i k v 0 ne ∙ h k (omega arith))
-
--- a table of zeros with 1 for the creator
-pub creator-only : (E : List ℕ) → 0 < length E → ((k : ℕ) → k < length E → getD E k 0 ≡ 0) → (k : ℕ) → (k ≡ 0 → ⊥) → getD (set E 0 1) k 0 ≡ 0
-creator-only E l zeros k ne =
-    getD-set-other E 0 k 1 0 ne
-    ∙ byBool (ltb k (length E)) (λ t. zeros k (ltb-true k (length E) t)) (λ f. List·getD-eq-default E 0 (ltb-false k (length E) f))
-
 -- ── the rows kept ───────────────────────────────────────────────────────────────────────────────────────────────────────
-
-and-true : (a : Bool) → (a && true) ≡ a
-and-true true = refl
-and-true false = refl
 
 -- the target's row after a revoke e; the row of no place
 module _ (K M : List ℕ) (t g e : ℕ) (target : t ≡ g) where
@@ -87,25 +55,6 @@ module _ (Q G M K : List ℕ) (e g : ℕ) (presented : g ≡ getD Q e 0) (above 
       met a b ∙ rw (row b, presented, f) (sym (and-true (bitAt K a b && (not (eqb a e) || bitAt K (getD Q e 0) b))))
 
 -- ── turns ───────────────────────────────────────────────────────────────────────────────────────────────────────────────
-
--- the members of a list, up to one place and one more
-module _ (l : List ℕ) (i : ℕ) (h : i < length l) where
-  one-more : take (i + 1) l ≡ take i l ++ (getD l i 0 ∷ [])
-  one-more = ap (λ (j : ℕ). take j l) (add-one i) ∙ take-suc l i 0 h
-
-  more→ : (k : ℕ) → List·Memᴰ k (take (i + 1) l) → List·Memᴰ k (take i l) ⊎ (k ≡ getD l i 0)
-  more→ k m =
-      ⊎-elim (λ n. inl n) (λ n. inr (List·Memᴰ·eq-of-singleton n))
-      (List·Memᴰ·append-cases (take i l) (subst (List·Memᴰ k) one-more m))
-
-  more← : (k : ℕ) → List·Memᴰ k (take i l) → List·Memᴰ k (take (i + 1) l)
-  more← k m = subst (List·Memᴰ k) (sym one-more) (Memᴰ·append-left (getD l i 0 ∷ []) m)
-
-  last : List·Memᴰ (getD l i 0) (take (i + 1) l)
-  last = subst (List·Memᴰ (getD l i 0)) (sym one-more) (Memᴰ·append-right (take i l) (List·Memᴰ·head refl))
-
-pub taken : (l : List ℕ) (i k : ℕ) → List·Memᴰ k (take i l) → List·Memᴰ k l
-taken l i k m = subst (List·Memᴰ k) (take-append-drop i l) (Memᴰ·append-left (drop i l) m)
 
 module _ (on : ℕ → ℕ → Bool) (G M l : List ℕ) where
   -- after the places `done`, the row of place g holds what each effective revoke of g has as an ancestor, and where g is done
@@ -203,28 +152,24 @@ module _ (on : ℕ → ℕ → Bool) (G M l : List ℕ) where
         (λ (s : k ≡ e). omega (arith, graded .aims e k listed (Memᴰ·cast s listed) a, ap rank s))
         (more→ l i h k m)
 
-    -- what strikes a place that is done is done, or was before
-    struck→ : (k : ℕ) → List·Memᴰ k (take (i + 1) l) → Struck on G M l now-effective k → Struck on G M l E k
-    struck→ k m s =
+    -- e strikes no place that is done, so tables that differ only there strike alike
+    struck-alike : (A B : List ℕ) → ((r : ℕ) → (r ≡ e → ⊥) → getD B r 0 ≡ getD A r 0) → (k : ℕ) → List·Memᴰ k (take (i + 1) l)
+        → Struck on G M l A k → Struck on G M l B k
+    struck-alike A B alike k m s =
         let ne : s .revoke ≡ e → ⊥ = λ p. no-strike k m (ap (λ (r : ℕ). on k (getD G r 0)) (sym p) ∙ s .target-on-line) in
         record {
           revoke = s .revoke;
           listed = s .listed;
-          is-effective = sym (same (s .revoke) ne) ∙ s .is-effective;
+          is-effective = alike (s .revoke) ne ∙ s .is-effective;
           target-on-line = s .target-on-line;
           not-ancestor = s .not-ancestor;
         }
 
+    struck→ : (k : ℕ) → List·Memᴰ k (take (i + 1) l) → Struck on G M l now-effective k → Struck on G M l E k
+    struck→ = struck-alike now-effective E (λ r ne. sym (same r ne))
+
     struck← : (k : ℕ) → List·Memᴰ k (take (i + 1) l) → Struck on G M l E k → Struck on G M l now-effective k
-    struck← k m s =
-        let ne : s .revoke ≡ e → ⊥ = λ p. no-strike k m (ap (λ (r : ℕ). on k (getD G r 0)) (sym p) ∙ s .target-on-line) in
-        record {
-          revoke = s .revoke;
-          listed = s .listed;
-          is-effective = same (s .revoke) ne ∙ s .is-effective;
-          target-on-line = s .target-on-line;
-          not-ancestor = s .not-ancestor;
-        }
+    struck← = struck-alike E now-effective same
 
     -- the bit says whether e is struck
     bit→ : bitAt K q e ≡ true → Struck on G M l E e → ⊥

@@ -12,7 +12,7 @@ use Rattle.model.specs.Heights.{view}
 use Rattle.model.specs.Verdicts.{verdict}
 use Rattle.model.specs.Store.{heldIn}
 use Rattle.history.specs.Levels.{Low}
-use Rattle.ancestry.specs.Ancestors.{idOf}
+use Rattle.history.specs.Placed.{idOf}
 use Rattle.authority.specs.Lines.{Authority}
 use Rattle.authority.specs.PlaceLaws.{Tables}
 

@@ -79,11 +79,7 @@ fn start(effective: &mut [u8])
     ensures { λ _. ⌜ getD (now (effective .exit)) 0 0 ≡ 1 ⌝ }
     ensures { λ _. ⌜ ((k : ℕ) → (k ≡ 0 → ⊥) → getD (now (effective .exit)) k 0 ≡ 0) ⌝ }
 {
-    let mut i = 0;
-    while i < effective.len() {
-        effective[i] = 0;
-        i += 1;
-    }
+    tables::clear_bytes(effective);
     effective[0] = 1;
 }
 

@@ -8,7 +8,7 @@ use borrow.Fn.PlainCycle.{Measures, is, falls, and}
 use Rattle.authority.proofs.on_line.Reads as on-line
 use Rattle.authority.proofs.on_line.Kinds as on-line-kinds
 use Rattle.authority.proofs.+on_line.Lts-on_line as on-line-lts
-use Rattle.authority.proofs.entry.Reads as entry-reads
+use Rattle.tables.proofs.entry.Reads as entry-reads
 use Rattle.authority.proofs.+on_line.{statement}
 use Rattle.authority.proofs.+on_line.Tie.{close}
 

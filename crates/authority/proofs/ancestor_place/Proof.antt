@@ -1,5 +1,6 @@
+use native.Mathlib.Omega.{arith}
 use mathlib.Core.Path.{sym, _∙_}
-use Rattle.authority.specs.EntryLaws.{no-bit}
+use Rattle.tables.specs.Bits.{bit-high}
 use borrow.Author.Needs.{needs}
 use Rattle.authority.proofs.ancestor_place.Statement.{statement}
 use Rattle.authority.proofs.ancestor_place.Tie as tie
@@ -16,7 +17,7 @@ enum-told c = search needs
 returns : tie.Need-returns
 returns c =
     let a = c .before .before .before .before .before .before .before .args in
-    rw (sym (c .before .before .search .ensures) ∙ c .enum-told .given .1, no-bit (a .rows .now) (a .k))
+    rw (sym (c .before .before .search .ensures) ∙ c .enum-told .given .1, bit-high (a .rows .now) (a .k) 256 (omega arith))
 
 has-requires : tie.Need-has-requires
 has-requires c κs = search needs

@@ -13,11 +13,11 @@ Inv-loop store parents order levels presented targets sound₀ i₀ sound i = Do
 abbrev μ-loop : tie.MeasureT-loop
 μ-loop store parents order levels presented targets sound₀ i₀ sound i = length order - i
 
-clear-requires : tie.Need-clear-requires Inv-loop μ-loop
-clear-requires c κs = search needs
+clear-bytes-requires : tie.Need-clear-bytes-requires Inv-loop μ-loop
+clear-bytes-requires c κs = search needs
 
 loop-holds : tie.Need-loop-holds Inv-loop μ-loop
-loop-holds c = done-none _ _ _ _ _ _ _ (search needs) (c .before .before .clear .ensures)
+loop-holds c = done-none _ _ _ _ _ _ _ (search needs) (c .before .before .clear-bytes .ensures)
 
 mul-k : tie.Need-mul-k Inv-loop μ-loop
 mul-k c = search needs
@@ -26,7 +26,9 @@ shared-slice-read-k : tie.Need-shared-slice-read-k Inv-loop μ-loop
 shared-slice-read-k c = search needs
 
 sound-at-requires : tie.Need-sound-at-requires Inv-loop μ-loop
-sound-at-requires c κs = search needs
+sound-at-requires c κs =
+    let l = c .before .before .before in
+    listed-low _ _ (l .loop .i) (l .before .before .before .before .before .before .before .before .before .before .before .before .pre .0) (search needs)
 
 cast-sound : tie.Need-cast-sound Inv-loop μ-loop
 cast-sound c =
@@ -61,7 +63,7 @@ sound-places-spec =
     (tie.spec
     Inv-loop
     μ-loop
-    clear-requires
+    clear-bytes-requires
     loop-holds
     mul-k
     shared-slice-read-k

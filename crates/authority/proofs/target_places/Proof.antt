@@ -3,7 +3,7 @@ use native.Mathlib.Omega.{arith}
 use mathlib.Core.Path.{_≡_}
 use lib.ListN.{length, getD, length-set}
 use Rattle.authority.specs.Lines.{targetAt}
-use Rattle.authority.proofs.Laws.{table-more}
+use Rattle.tables.specs.Filling.{table-more}
 use borrow.Author.Needs.{needs}
 use Rattle.authority.proofs.target_places.Statement.{statement}
 use Rattle.authority.proofs.target_places.Tie as tie

@@ -22,9 +22,6 @@ returns-2 c =
     let revokes = sym (c .before .before .before .byte .ensures) ∙ c .before .before .if1 .left in
     suits-none _ _ _ _ _ _ event revokes _ (c .before .entry .ensures) (c .if2 .taken)
 
-cast-entry : tie.Need-cast-entry
-cast-entry c = search needs
-
 entry-requires-2 : tie.Need-entry-requires-2
 entry-requires-2 c κs = search needs
 
@@ -52,7 +49,6 @@ target-suits-spec =
     returns
     entry-requires
     returns-2
-    cast-entry
     entry-requires-2
     entry-requires-3
     on-line-requires

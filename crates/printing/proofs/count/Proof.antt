@@ -39,8 +39,11 @@ loop-less c = search needs
 loop-again : tie.Need-loop-again Inv-loop μ-loop
 loop-again c =
     let l = c .before .before .before .loop in
-    let a = c .before .before .before .before .before .args in
-    (omega arith, omega arith, many-turn (a .k) (a .verdicts .now) (l .i) (l .n) (c .same .result) (omega arith) (l .inv .2) (c .same .ensures .0))
+    let a = c .before .before .before .before .before .args in (
+      omega arith,
+      omega arith,
+      many-turn (a .k) (a .verdicts .now) (l .i) (l .n) (c .same .result) (omega arith) (l .inv .2) (c .same .ensures .0),
+    )
 
 returns : tie.Need-returns Inv-loop μ-loop
 returns c =

@@ -1,8 +1,9 @@
 use Prim.Native.Nat.{_+_}
 use native.Mathlib.Omega.{arith}
 use mathlib.Core.Path.{refl}
-use Rattle.printing.specs.Text.{refused-word, line-feed, refusalLine}
-use Rattle.printing.proofs.Laws.{field-size-3, written-start, written-more}
+use Rattle.printing.specs.Text.{refusedWord, lineFeed, refusalLine}
+use Rattle.printing.specs.Sizes.{field-most}
+use Rattle.printing.proofs.Laws.{written-start, written-more}
 use borrow.Author.Needs.{needs}
 use Rattle.printing.proofs.refusal_line.Statement.{statement}
 use Rattle.printing.proofs.refusal_line.Tie as tie
@@ -13,7 +14,7 @@ slice-aggregate-write-field c = search needs
 write-field-requires : tie.Need-write-field-requires
 write-field-requires c κs =
     let s = c .before .before .before in
-    omega (arith, field-size-3 refused-word (s .args .number) (omega arith))
+    omega (arith, field-most refusedWord 2 (s .args .number) (omega arith))
 
 slice-aggregate-paste : tie.Need-slice-aggregate-paste
 slice-aggregate-paste c = search needs
@@ -34,9 +35,9 @@ returns c =
     let o = s .args .out .now in
     let word = c .before .before .before .before .before .before .before .write-field in
     let end = c .before .before .paste in
-    let size = field-size-3 refused-word (s .args .number) (omega arith) in
+    let size = field-most refusedWord 2 (s .args .number) (omega arith) in
     let a = written-more _ (word .result) (written-start o) (word .ensures .0) (word .ensures .1 .0) (omega arith) in
-    let b = written-more line-feed (word .result + 1) a (end .ensures) refl (omega arith) in
+    let b = written-more lineFeed (word .result + 1) a (end .ensures) refl (omega arith) in
     (b .size, b .text)
 
 pub refusal-line-spec : {M : Type 1} → statement M

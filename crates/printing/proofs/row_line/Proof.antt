@@ -87,7 +87,8 @@ array-read-t61 c = search needs
 returns : tie.Need-returns
 unfolding assembled
 returns c =
-    line-of (c .before .before .before .before .before .before .before .before .before .before .before .args .row .now)
+    let a = c .before .before .before .before .before .before .before .before .before .before .before .args in
+    line-of (a .row .now)
     (c .before .before .before .before .before .before .before .before .four-digits .result) (c .before .before .before .before .before .before .four-digits2 .result)
     (c .before .before .before .before .two-digits .result) (c .before .before .two-digits2 .result) (c .five-digits .result)
     (cc) (cc) (cc) (cc) (cc)

@@ -2,7 +2,8 @@ use Prim.Native.Nat.{_+_}
 use native.Mathlib.Omega.{arith}
 use mathlib.Core.Path.{refl}
 use lib.ListN.{length}
-use Rattle.printing.proofs.Laws.{field-behind, field-length, field-size}
+use Rattle.printing.specs.Sizes.{field-most}
+use Rattle.printing.proofs.Laws.{field-behind, field-length}
 use borrow.Author.Needs.{needs}
 use Rattle.printing.proofs.write_field.Statement.{statement}
 use Rattle.printing.proofs.write_field.Tie as tie
@@ -28,7 +29,7 @@ returns c =
     let first = c .before .before .before .before .before .before .paste in
     let second = c .before .before .write-number in
     let whole = field-length (a .word .now) (a .n) in
-    let few = field-size (a .word .now) (a .n) (omega arith) in (
+    let few = field-most (a .word .now) 4 (a .n) (omega arith) in (
       field-behind (a .out .now) (first .last .0) (second .last .0) (a .word .now) (a .at) (a .at + length (a .word .now)) (a .n)
           (first .ensures) refl (s .pre) (second .ensures .0),
       (omega arith, omega arith),

@@ -1,8 +1,9 @@
 use Prim.Native.Nat.{_+_}
 use native.Mathlib.Omega.{arith}
 use mathlib.Core.Path.{refl}
-use Rattle.printing.specs.Text.{links-word, waiting-word, unsound-word, void-word, line-feed, headLine}
-use Rattle.printing.proofs.Laws.{field-size, written-start, written-more}
+use Rattle.printing.specs.Text.{linksWord, waitingWord, unsoundWord, voidWord, lineFeed, headLine}
+use Rattle.printing.specs.Sizes.{field-most}
+use Rattle.printing.proofs.Laws.{written-start, written-more}
 use borrow.Author.Needs.{needs}
 use Rattle.printing.proofs.write_head.Statement.{statement}
 use Rattle.printing.proofs.write_head.Tie as tie
@@ -13,7 +14,7 @@ slice-aggregate-write-field c = search needs
 write-field-requires : tie.Need-write-field-requires
 write-field-requires c κs =
     let s = c .before .before .before in
-    omega (arith, field-size links-word (s .args .links) (omega arith))
+    omega (arith, field-most linksWord 4 (s .args .links) (omega arith))
 
 slice-aggregate-write-field-2 : tie.Need-slice-aggregate-write-field-2
 slice-aggregate-write-field-2 c = search needs
@@ -21,7 +22,7 @@ slice-aggregate-write-field-2 c = search needs
 write-field-requires-2 : tie.Need-write-field-requires-2
 write-field-requires-2 c κs =
     let s = c .before .before .before .before .before .before .before .before in
-    omega (arith, field-size waiting-word (s .args .waiting) (omega arith))
+    omega (arith, field-most waitingWord 4 (s .args .waiting) (omega arith))
 
 slice-aggregate-write-field-3 : tie.Need-slice-aggregate-write-field-3
 slice-aggregate-write-field-3 c = search needs
@@ -29,7 +30,7 @@ slice-aggregate-write-field-3 c = search needs
 write-field-requires-3 : tie.Need-write-field-requires-3
 write-field-requires-3 c κs =
     let s = c .before .before .before .before .before .before .before .before .before .before .before .before .before in
-    omega (arith, field-size unsound-word (s .args .unsound) (omega arith))
+    omega (arith, field-most unsoundWord 4 (s .args .unsound) (omega arith))
 
 slice-aggregate-write-field-4 : tie.Need-slice-aggregate-write-field-4
 slice-aggregate-write-field-4 c = search needs
@@ -37,7 +38,7 @@ slice-aggregate-write-field-4 c = search needs
 write-field-requires-4 : tie.Need-write-field-requires-4
 write-field-requires-4 c κs =
     let s = c .before .before .before .before .before .before .before .before .before .before .before .before .before .before .before .before .before .before in
-    omega (arith, field-size void-word (s .args .void) (omega arith))
+    omega (arith, field-most voidWord 4 (s .args .void) (omega arith))
 
 slice-aggregate-paste : tie.Need-slice-aggregate-paste
 slice-aggregate-paste c = search needs
@@ -65,7 +66,7 @@ returns c =
     let v = written-more _ (l .result) u (l .ensures .0) (l .ensures .1 .0) (omega arith) in
     let w = written-more _ (m .result) v (m .ensures .0) (m .ensures .1 .0) (omega arith) in
     let x = written-more _ (n .result) w (n .ensures .0) (n .ensures .1 .0) (omega arith) in
-    let y = written-more line-feed (n .result + 1) x (end .ensures) refl (omega arith) in
+    let y = written-more lineFeed (n .result + 1) x (end .ensures) refl (omega arith) in
     (y .text, (y .size, omega arith))
 
 pub write-head-spec : {M : Type 1} → statement M

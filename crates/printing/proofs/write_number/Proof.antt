@@ -31,7 +31,9 @@ same-length c = search needs
 returns : tie.Need-returns
 returns c =
     let a = c .before .before .before .before .before .before .before .before .before .args in
-    number-written (a .out .now) (c .before .before .paste .last .0) (c .before .before .before .before .before .before .before .five-digits .result) (a .at) (a .n) (c .before .before .before .before .before .before .leading-zeros .result)
+    let five = c .before .before .before .before .before .before .before .five-digits in
+    let zeros = c .before .before .before .before .before .before .leading-zeros in
+    number-written (a .out .now) (c .before .before .paste .last .0) (five .result) (a .at) (a .n) (zeros .result)
     (omega arith) (cc) (cc) (cc)
 
 pub write-number-spec : {M : Type 1} → statement M

@@ -1,8 +1,8 @@
 use Prim.Native.Nat.{ℕ, _-_, _<_, _≤_}
 use native.Mathlib.Omega.{arith}
-use mathlib.Core.Path.{_≡_}
+use mathlib.Core.Path.{_≡_, refl}
 use lib.ListN.{length, getD, length-set}
-use Rattle.tables.proofs.Laws.{filled-more, zeros-all}
+use Rattle.tables.specs.Filling.{table-more, zeros-all}
 use borrow.Author.Needs.{needs}
 use Rattle.tables.proofs.clear.Statement.{statement}
 use Rattle.tables.proofs.clear.Tie as tie
@@ -32,7 +32,7 @@ loop-again : tie.Need-loop-again Inv-loop μ-loop
 loop-again c =
     let l = c .before in
     let n = length-set (l .loop .table) (l .loop .i) 0 in
-    (omega arith, omega arith, filled-more (l .loop .table) (l .loop .i) 0 (omega arith) (l .loop .inv .2))
+    (omega arith, omega arith, table-more (λ k. 0) (l .loop .table) (l .loop .i) 0 (omega arith) (l .loop .inv .2) refl)
 
 same-length : tie.Need-same-length Inv-loop μ-loop
 same-length c = search needs

@@ -1,56 +1,20 @@
-use Prim.Native.Nat.{ℕ, _-_, _<_, _≤_}
 use native.Mathlib.Omega.{arith}
-use mathlib.Core.Path.{_≡_}
-use lib.ListN.{length, getD, length-set}
-use Rattle.tables.proofs.Laws.{filled-more, zeros-all, rows-empty}
+use Rattle.tables.specs.Filling.{zeros-all}
+use Rattle.tables.proofs.Laws.{rows-empty}
 use borrow.Author.Needs.{needs}
 use Rattle.tables.proofs.clear_rows.Statement.{statement}
 use Rattle.tables.proofs.clear_rows.Tie as tie
 
-abbrev Inv-loop : tie.InvT-loop
-Inv-loop rows₀ i₀ rows i = (length rows ≡ length rows₀) × (i ≤ length rows) × ((k : ℕ) → k < i → getD rows k 0 ≡ 0)
+fill-requires : tie.Need-fill-requires
+fill-requires c κs = search needs
 
-abbrev μ-loop : tie.MeasureT-loop
-μ-loop rows₀ i₀ rows i = length rows₀ - i
-
-loop-holds : tie.Need-loop-holds Inv-loop μ-loop
-loop-holds c = search needs
-
-mul-rows : tie.Need-mul-rows Inv-loop μ-loop
-mul-rows c = search needs
-
-slice-write-rows : tie.Need-slice-write-rows Inv-loop μ-loop
-slice-write-rows c = search needs
-
-add-i : tie.Need-add-i Inv-loop μ-loop
-add-i c = search needs
-
-loop-less : tie.Need-loop-less Inv-loop μ-loop
-loop-less c = search needs
-
-loop-again : tie.Need-loop-again Inv-loop μ-loop
-loop-again c =
-    let l = c .before in
-    let n = length-set (l .loop .rows) (l .loop .i) 0 in
-    (omega arith, omega arith, filled-more (l .loop .rows) (l .loop .i) 0 (omega arith) (l .loop .inv .2))
-
-same-length : tie.Need-same-length Inv-loop μ-loop
+same-length : tie.Need-same-length
 same-length c = search needs
 
-returns : tie.Need-returns Inv-loop μ-loop
-returns c = let l = c .before in rows-empty (l .loop .rows) (zeros-all (l .loop .rows) (λ k h. l .loop .inv .2 k (omega arith)))
+returns : tie.Need-returns
+returns c =
+    let k = c .before .before .fill in
+    rows-empty (k .last .0) (zeros-all (k .last .0) (λ i h. k .ensures i (omega (arith, k .kept .0, h))))
 
 pub clear-rows-spec : {M : Type 1} → statement M
-clear-rows-spec =
-    tie.close
-    (tie.spec
-    Inv-loop
-    μ-loop
-    loop-holds
-    mul-rows
-    slice-write-rows
-    add-i
-    loop-less
-    loop-again
-    same-length
-    returns)
+clear-rows-spec = tie.close (tie.spec fill-requires same-length returns)

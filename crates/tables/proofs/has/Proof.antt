@@ -1,6 +1,7 @@
 use native.Mathlib.Omega.{arith}
 use mathlib.Core.Path.{sym}
-use Rattle.tables.proofs.Laws.{bit-high, bit-outside, bit-inside}
+use Rattle.tables.specs.Bits.{bit-high}
+use Rattle.tables.proofs.Laws.{bit-outside, bit-inside}
 use borrow.Author.Needs.{needs}
 use Rattle.tables.proofs.has.Statement.{statement}
 use Rattle.tables.proofs.has.Tie as tie

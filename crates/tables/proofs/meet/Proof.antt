@@ -1,5 +1,3 @@
-use native.Mathlib.Omega.{arith}
-use lib.ListN.{length-set}
 use Rattle.tables.proofs.Laws.{met}
 use borrow.Author.Needs.{needs}
 use Rattle.tables.proofs.meet.Statement.{statement}
@@ -53,44 +51,16 @@ slice-read-d c = search needs
 array-read-d : tie.Need-array-read-d
 array-read-d c = search needs
 
-mul-rows : tie.Need-mul-rows
-mul-rows c = search needs
-
-slice-write-rows : tie.Need-slice-write-rows
-slice-write-rows c = search needs
-
-add-rows : tie.Need-add-rows
-add-rows c = search needs
-
-mul-rows-2 : tie.Need-mul-rows-2
-mul-rows-2 c = search needs
-
-slice-write-rows-2 : tie.Need-slice-write-rows-2
-slice-write-rows-2 c = simp length-set (omega (arith, c .before .before .before .before .pre))
-
-add-rows-2 : tie.Need-add-rows-2
-add-rows-2 c = search needs
-
-mul-rows-3 : tie.Need-mul-rows-3
-mul-rows-3 c = search needs
-
-slice-write-rows-3 : tie.Need-slice-write-rows-3
-slice-write-rows-3 c = simp length-set (omega (arith, c .before .before .before .before .pre))
-
-add-rows-3 : tie.Need-add-rows-3
-add-rows-3 c = search needs
-
-mul-rows-4 : tie.Need-mul-rows-4
-mul-rows-4 c = search needs
-
-slice-write-rows-4 : tie.Need-slice-write-rows-4
-slice-write-rows-4 c = simp length-set (omega (arith, c .before .before .before .before .pre))
+set-row-requires : tie.Need-set-row-requires
+set-row-requires c κs = search needs
 
 same-length : tie.Need-same-length
 same-length c = search needs
 
 returns : tie.Need-returns
-returns c = let a = c .before .before .before .before .args in met (a .rows .now) (a .t3) (a .k) (c .before .before .before .before .pre)
+returns c =
+    let a = c .before .before .before .before .before .before .before .before .before .args in
+    met (a .rows .now) (a .t3) (c .before .before .set-row .last .0) (a .k) (c .before .before .set-row .ensures)
 
 pub meet-spec : {M : Type 1} → statement M
 meet-spec =
@@ -112,16 +82,6 @@ meet-spec =
     mul-d
     slice-read-d
     array-read-d
-    mul-rows
-    slice-write-rows
-    add-rows
-    mul-rows-2
-    slice-write-rows-2
-    add-rows-2
-    mul-rows-3
-    slice-write-rows-3
-    add-rows-3
-    mul-rows-4
-    slice-write-rows-4
+    set-row-requires
     same-length
     returns)

@@ -65,8 +65,7 @@ judge-requires c κs =
     let p = c .before .before .before .before .before .before .before .before .before .before .before .before .before .before .before .before .before .before .before .before .before .before .before .before .pre in
     let t =
     tabled _ _ _ _ _ _ (x .last .1 .1 .0) (z .last .1 .1 .1 .1 .1 .1 .1 .1 .0) (z .last .1 .1 .1 .1 .1 .1 .1 .1 .1 .0) (z .last .1 .1 .1 .1 .1 .1 .1 .1 .1 .1 .0) _ (p .0 .0) (p .0 .1)
-    (p .1 .0 .0) (p .1 .0 .2) (p .1 .0 .3) (p .1 .1 .0) (x .ensures) (z .kept .1 .1 .1 .1 .1 .1 .1 .1 .0) (z .ensures .0) (z .kept .1 .1 .1 .1 .1 .1 .1 .1 .1 .0)
-    (z .ensures .1 .0) (z .ensures .1 .1) in
+    (p .1 .0 .0) (p .1 .0 .2) (p .1 .0 .3) (p .1 .1 .0) (x .ensures) (z .ensures .0) (z .ensures .1 .0) (z .ensures .1 .1) in
     (judgeable-by _ _ _ _ _ _ _ _ _ _ _ (p .1 .1 .1) t, x .kept .1 .1 .0)
 
 same-length : tie.Need-same-length
@@ -79,8 +78,7 @@ returns c =
     let p = c .before .before .before .before .before .before .before .before .before .before .before .before .before .before .before .before .before .before .before .before .before .before .before .before .before .before .before .pre in
     let t =
     tabled _ _ _ _ _ _ (x .last .1 .1 .0) (z .last .1 .1 .1 .1 .1 .1 .1 .1 .0) (z .last .1 .1 .1 .1 .1 .1 .1 .1 .1 .0) (z .last .1 .1 .1 .1 .1 .1 .1 .1 .1 .1 .0) _ (p .0 .0) (p .0 .1)
-    (p .1 .0 .0) (p .1 .0 .2) (p .1 .0 .3) (p .1 .1 .0) (x .ensures) (z .kept .1 .1 .1 .1 .1 .1 .1 .1 .0) (z .ensures .0) (z .kept .1 .1 .1 .1 .1 .1 .1 .1 .1 .0)
-    (z .ensures .1 .0) (z .ensures .1 .1) in
+    (p .1 .0 .0) (p .1 .0 .2) (p .1 .0 .3) (p .1 .1 .0) (x .ensures) (z .ensures .0) (z .ensures .1 .0) (z .ensures .1 .1) in
     judged-by _ _ _ _ _ _ _ _ _ _ _ (p .1 .1 .1) t _ (c .before .before .judge .ensures)
 
 pub held-verdicts-spec : {M : Type 1} → statement M

@@ -4,7 +4,7 @@ use mathlib.Core.Path.{_≡_, refl}
 use lib.ListN.{length, getD, length-set}
 use borrow.Author.Needs.{needs}
 use Rattle.verdicts.specs.Verdicts.{rankOf}
-use Rattle.verdicts.proofs.Laws.{table-more}
+use Rattle.tables.specs.Filling.{table-more}
 use Rattle.verdicts.proofs.ranks.Statement.{statement}
 use Rattle.verdicts.proofs.ranks.Tie as tie
 

@@ -2,10 +2,10 @@ use Prim.Native.Nat.{ℕ, _-_, _<_, _≤_}
 use native.Mathlib.Omega.{arith}
 use mathlib.Core.Path.{_≡_, refl}
 use lib.ListN.{length, getD, length-set}
-use Rattle.authority.proofs.Laws.{table-more, zeros-all}
+use Rattle.tables.specs.Filling.{table-more, zeros-all}
 use borrow.Author.Needs.{needs}
-use Rattle.authority.proofs.clear.Statement.{statement}
-use Rattle.authority.proofs.clear.Tie as tie
+use Rattle.tables.proofs.clear_bytes.Statement.{statement}
+use Rattle.tables.proofs.clear_bytes.Tie as tie
 
 abbrev Inv-loop : tie.InvT-loop
 Inv-loop table₀ i₀ table i = (length table ≡ length table₀) × (i ≤ length table) × ((k : ℕ) → k < i → getD table k 0 ≡ 0)
@@ -29,8 +29,7 @@ loop-again : tie.Need-loop-again Inv-loop μ-loop
 loop-again c =
     let l = c .before in
     let n = length-set (l .loop .table) (l .loop .i) 0 in
-    let more = table-more (λ k. 0) (l .loop .table) (l .loop .i) 0 (omega arith) (l .loop .inv .2) refl in
-    (omega arith, omega arith, more)
+    (omega arith, omega arith, table-more (λ k. 0) (l .loop .table) (l .loop .i) 0 (omega arith) (l .loop .inv .2) refl)
 
 same-length : tie.Need-same-length Inv-loop μ-loop
 same-length c = search needs
@@ -38,8 +37,8 @@ same-length c = search needs
 returns : tie.Need-returns Inv-loop μ-loop
 returns c = let l = c .before in zeros-all (l .loop .table) (λ k h. l .loop .inv .2 k (omega arith))
 
-pub clear-spec : {M : Type 1} → statement M
-clear-spec =
+pub clear-bytes-spec : {M : Type 1} → statement M
+clear-bytes-spec =
     tie.close
     (tie.spec
     Inv-loop
