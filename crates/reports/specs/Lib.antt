@@ -1,4 +1,5 @@
 pub mod Reports
 pub mod ReportLaws
 pub mod Prepared
+pub mod PreparedLaws
 pub mod Lifted
