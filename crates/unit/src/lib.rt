@@ -21,3 +21,4 @@ pub use takes::take;
 pub use takes::take_bundle;
 pub use tally::take_bundle_counted;
 pub use tally::take_counted;
+pub use text::text;
