@@ -1,0 +1,4 @@
+// Runs the script on standard input, which ends in a record that is none.
+fn main() {
+    replaying::drive();
+}
