@@ -27,13 +27,13 @@ enum-known-n : tie.Need-enum-known-n
 enum-known-n c = search needs
 
 array-share-prefix-out : tie.Need-array-share-prefix-out
-array-share-prefix-out c = 
+array-share-prefix-out c =
     let k = c .before .before .before .before .before .text in
     let n = c .before .n .given in
     let few = text-fits cordLimit _ _ _ (n .0 .0) (sym (k .ensures .0) ∙ ap answerOfCount (n .1)) in omega (arith, few, k .kept .1 .1 .0)
 
 slice-aggregate-write-all : tie.Need-slice-aggregate-write-all
-slice-aggregate-write-all c = 
+slice-aggregate-write-all c =
     let k = c .before .before .before .before .before .before .text in
     let n = c .before .before .n .given in
     let few = text-fits cordLimit _ _ _ (n .0 .0) (sym (k .ensures .0) ∙ ap answerOfCount (n .1)) in sym (length-take-le (n .0 .0) (k .last .1 .1 .0) (omega (arith, few, k .kept .1 .1 .0)))

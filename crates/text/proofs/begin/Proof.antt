@@ -23,13 +23,13 @@ count-in-requires : tie.Need-count-in-requires
 count-in-requires c κs = sym (c .before .bundle-good .ensures) ∙ not-false _ (c .if2 .left)
 
 returns-3 : tie.Need-returns-3
-returns-3 c = 
+returns-3 c =
     let a = c .before .before .before .before .before .before .before .args in
     let long = c .before .before .before .before .if1 .left in
     let good = sym (c .before .before .before .bundle-good .ensures) ∙ not-false _ (c .before .before .if2 .left) in begin-5 (a .bundle .now) (a .store .now) long good (sym (c .before .count-in .ensures) ∙ c .if3 .taken)
 
 first-event-requires : tie.Need-first-event-requires
-first-event-requires c κs = 
+first-event-requires c κs =
     let a = c .before .before .before .before .before .before .before .args in
     let long = c .before .before .before .before .if1 .left in
     let good = sym (c .before .before .before .bundle-good .ensures) ∙ not-false _ (c .before .before .if2 .left) in good
@@ -53,7 +53,7 @@ same-length : tie.Need-same-length
 same-length c = search needs
 
 returns-4 : tie.Need-returns-4
-returns-4 c = 
+returns-4 c =
     let a = c .before .before .before .before .before .before .before .before .before .before .before .before .before .before .before .before .args in
     let long = c .before .before .before .before .before .before .before .before .before .before .before .before .before .if1 .left in
     let good = sym (c .before .before .before .before .before .before .before .before .before .before .before .before .bundle-good .ensures) ∙ not-false _ (c .before .before .before .before .before .before .before .before .before .before .before .if2 .left) in
@@ -67,7 +67,7 @@ same-length-2 : tie.Need-same-length-2
 same-length-2 c = search needs
 
 returns-5 : tie.Need-returns-5
-returns-5 c = 
+returns-5 c =
     let a = c .before .before .before .before .before .before .before .before .before .before .before .before .before .before .before .args in
     let long = c .before .before .before .before .before .before .before .before .before .before .before .before .if1 .left in
     let good = sym (c .before .before .before .before .before .before .before .before .before .before .before .bundle-good .ensures) ∙ not-false _ (c .before .before .before .before .before .before .before .before .before .before .if2 .left) in
@@ -81,7 +81,7 @@ same-length-3 : tie.Need-same-length-3
 same-length-3 c = search needs
 
 returns-6 : tie.Need-returns-6
-returns-6 c = 
+returns-6 c =
     let a = c .before .before .before .before .before .before .before .before .before .before .before .before .before .before .before .args in
     let long = c .before .before .before .before .before .before .before .before .before .before .before .before .if1 .left in
     let good = sym (c .before .before .before .before .before .before .before .before .before .before .before .bundle-good .ensures) ∙ not-false _ (c .before .before .before .before .before .before .before .before .before .before .if2 .left) in

@@ -33,7 +33,7 @@ same-length-2 : tie.Need-same-length-2
 same-length-2 c = search needs
 
 returns : tie.Need-returns
-returns c = 
+returns c =
     let a = c .before .before .before .before .before .before .before .before .before .before .before .before .before .before .before .before .before .before .args in
     let g = c .before .before .before .before .before .before .before .before .before .before .before .before .before .begin in
     let k = c .before .before .before .before .before .before .before .take-bundle in
@@ -42,15 +42,16 @@ returns c =
     let p = text-printed (a .bundle .now) (a .store .now) (a .out .now) (ap numberOfBegun (sym (c .before .before .before .before .before .before .before .before .before .enum-told .given .1)) ∙ g .ensures .0) taken refl in
     let same-store = k .ensures .1 ∙ ap (λ (s : Bytes). bundleOf cordLimit s 1 (a .bundle .now) .store) (g .ensures .1) in
     let same-count = k .ensures .0 .1 ∙ ap (λ (s : Bytes). bundleOf cordLimit s 1 (a .bundle .now) .count) (g .ensures .1) in
-    let told = ap₂ (λ (s : Bytes) (n : ℕ). heldTextOf cordLimit s n (a .out .now)) same-store same-count in
-    (w .0 ∙ ap (λ (q : Report ℕ). q .answer) told ∙ sym (ap (λ (q : Printed). q .answer) p),
-    (same-store ∙ sym (ap (λ (q : Printed). q .store) p), w .1 ∙ ap (λ (q : Report ℕ). q .out) told ∙ sym (ap (λ (q : Printed). q .out) p)))
+    let told = ap₂ (λ (s : Bytes) (n : ℕ). heldTextOf cordLimit s n (a .out .now)) same-store same-count in (
+      w .0 ∙ ap (λ (q : Report ℕ). q .answer) told ∙ sym (ap (λ (q : Printed). q .answer) p),
+      (same-store ∙ sym (ap (λ (q : Printed). q .store) p), w .1 ∙ ap (λ (q : Report ℕ). q .out) told ∙ sym (ap (λ (q : Printed). q .out) p)),
+    )
 
 same-length-3 : tie.Need-same-length-3
 same-length-3 c = search needs
 
 returns-2 : tie.Need-returns-2
-returns-2 c = 
+returns-2 c =
     let a = c .before .before .before .before .before .before .before .before .before .before .args in
     let g = c .before .before .before .before .before .begin in
     let r = text-refused (a .bundle .now) (a .store .now) (a .out .now) _ (ap numberOfBegun (sym (c .before .refusal .given .1)) ∙ g .ensures .0) in

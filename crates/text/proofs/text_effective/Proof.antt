@@ -27,7 +27,7 @@ write-rows-requires : tie.Need-write-rows-requires
 write-rows-requires c κs = search needs
 
 mul-rows : tie.Need-mul-rows
-mul-rows c = 
+mul-rows c =
     let a = c .before .before .before .before .before .before .before .before .before .before .before in
     let m = machineOf (a .args .store .now) (a .args .places .now) in
     let few = links-few (a .args .store .now) (a .args .places .now) in
@@ -36,7 +36,7 @@ mul-rows c =
     let count = w .ensures .0 (m .links) shown in omega (arith, few, count, a .pre .1 .0)
 
 array-share-prefix-rows : tie.Need-array-share-prefix-rows
-array-share-prefix-rows c = 
+array-share-prefix-rows c =
     let a = c .before .before .before .before .before .before .before .before .before .before .before in
     let m = machineOf (a .args .store .now) (a .args .places .now) in
     let few = links-few (a .args .store .now) (a .args .places .now) in
@@ -45,7 +45,7 @@ array-share-prefix-rows c =
     let count = w .ensures .0 (m .links) shown in omega (arith, few, count, a .pre .1 .0, w .kept .1 .1 .0)
 
 slice-aggregate-write-text : tie.Need-slice-aggregate-write-text
-slice-aggregate-write-text c = 
+slice-aggregate-write-text c =
     let a = c .before .before .before .before .before .before .before .before .before .before .before .before in
     let m = machineOf (a .args .store .now) (a .args .places .now) in
     let few = links-few (a .args .store .now) (a .args .places .now) in
@@ -54,7 +54,7 @@ slice-aggregate-write-text c =
     let count = w .ensures .0 (m .links) shown in sym (length-take-le (w .result * 8) (w .last .1 .1 .0) (omega (arith, few, count, a .pre .1 .0, w .kept .1 .1 .0)))
 
 write-text-requires : tie.Need-write-text-requires
-write-text-requires c κs = 
+write-text-requires c κs =
     let a = c .before .before .before .before .before .before .before .before .before .before .before .before .before in
     let m = machineOf (a .args .store .now) (a .args .places .now) in
     let few = links-few (a .args .store .now) (a .args .places .now) in
@@ -74,7 +74,7 @@ same-length : tie.Need-same-length
 same-length c = search needs
 
 returns : tie.Need-returns
-returns c = 
+returns c =
     let a = c .before .before .before .before .before .before .before .before .before .before .before .before .before .before .before .before .before .before .before in
     let m = machineOf (a .args .store .now) (a .args .places .now) in
     let few = links-few (a .args .store .now) (a .args .places .now) in
@@ -91,7 +91,7 @@ same-length-2 : tie.Need-same-length-2
 same-length-2 c = search needs
 
 returns-2 : tie.Need-returns-2
-returns-2 c = 
+returns-2 c =
     let a = c .before .before .before .before .before .before .before .before .before .before .before .before .before .before .before .before .before .before in
     let m = machineOf (a .args .store .now) (a .args .places .now) in
     let few = links-few (a .args .store .now) (a .args .places .now) in

@@ -24,25 +24,26 @@ put-rank-requires : tie.Need-put-rank-requires
 put-rank-requires c κs = let a = c .before .before .before .before .before .before .before .before .before .before .before .before .before .before in omega (arith, rank-few (c .before .before .before .before .held-verdicts .last .1 .1 .1 .1 .1 .1 .1 .0) (a .args .places .now) 3 (listed-few (a .pre .0)))
 
 array-share-prefix-effective : tie.Need-array-share-prefix-effective
-array-share-prefix-effective c = 
+array-share-prefix-effective c =
     let a = c .before .before .before .before .before .before .before .before .before .before .before .before .before .before .before .before in
     let k = c .before .put-rank in
     omega (arith, rank-few (c .before .before .before .before .before .before .held-verdicts .last .1 .1 .1 .1 .1 .1 .1 .0) (a .args .places .now) 3 (listed-few (a .pre .0)), k .ensures .0, k .kept .1 .1 .1 .0)
 
 slice-aggregate-text-effective : tie.Need-slice-aggregate-text-effective
-slice-aggregate-text-effective c = 
+slice-aggregate-text-effective c =
     let a = c .before .before .before .before .before .before .before .before .before .before .before .before .before .before .before .before .before in
     let k = c .before .before .put-rank in
     sym (length-take-le (k .result) (k .last .1 .1 .1 .0) (omega (arith, rank-few (c .before .before .before .before .before .before .before .held-verdicts .last .1 .1 .1 .1 .1 .1 .1 .0) (a .args .places .now) 3 (listed-few (a .pre .0)), k .ensures .0, k .kept .1 .1 .1 .0)))
 
 text-effective-requires : tie.Need-text-effective-requires
-text-effective-requires c κs = 
+text-effective-requires c κs =
     let a = c .before .before .before .before .before .before .before .before .before .before .before .before .before .before .before .before .before .before .before in
     let k = c .before .before .before .before .put-rank in
     let v = c .before .before .before .before .before .before .before .before .before .held-verdicts in
-    let few = rank-few (c .before .before .before .before .before .before .before .before .before .held-verdicts .last .1 .1 .1 .1 .1 .1 .1 .0) (a .args .places .now) 3 (listed-few (a .pre .0)) in
-    (ap (allOf (mayRun (a .args .store .now))) (k .ensures .1) ∙ all-may-run (a .pre .0) (v .ensures),
-    (omega (arith, few, ap length (k .ensures .1)), omega (arith, v .kept .1 .1 .1 .1 .1 .1 .1 .0, a .pre .1 .2, checked→ cordLimit (a .args .store .now) (a .args .n) (a .pre .0 .good) .at-most)))
+    let few = rank-few (c .before .before .before .before .before .before .before .before .before .held-verdicts .last .1 .1 .1 .1 .1 .1 .1 .0) (a .args .places .now) 3 (listed-few (a .pre .0)) in (
+      ap (allOf (mayRun (a .args .store .now))) (k .ensures .1) ∙ all-may-run (a .pre .0) (v .ensures),
+      (omega (arith, few, ap length (k .ensures .1)), omega (arith, v .kept .1 .1 .1 .1 .1 .1 .1 .0, a .pre .1 .2, checked→ cordLimit (a .args .store .now) (a .args .n) (a .pre .0 .good) .at-most)),
+    )
 
 same-length : tie.Need-same-length
 same-length c = search needs
@@ -51,7 +52,7 @@ same-length-2 : tie.Need-same-length-2
 same-length-2 c = search needs
 
 returns : tie.Need-returns
-returns c = 
+returns c =
     let a = c .before .before .before .before .before .before .before .before .before .before .before .before .before .before .before .before .before .before .before .before .before .before in
     let v = c .before .before .before .before .before .before .before .before .before .before .before .before .held-verdicts in
     let e = text-same (a .pre .0) (v .ensures) (v .kept .1 .1 .1 .1 .1 .1 .1 .0 ∙ a .pre .1 .2) _ (c .before .before .before .before .before .before .before .put-rank .ensures .1) in
