@@ -1,11 +1,11 @@
--- A refusal's line is short.
-use Prim.Native.Nat.{ℕ, _<_, _≤_}
-use native.Mathlib.Omega.{arith}
-use mathlib.Core.Path.{_≡_}
-use lib.ListN.{length, length-append}
-use Rattle.printing.specs.Text.{refusedWord, lineFeed, field, refusalLine}
-use Rattle.printing.specs.Sizes.{field-most}
+-- What is overwritten begins with what was written.
+use Prim.Native.Nat.{ℕ}
+use mathlib.Core.Path.{_≡_, sym, ap, _∙_}
+use lib.ListN.{length, take, drop}
+use lib.Seq.{take-at}
+use Rattle.lists.specs.Bytes.{Bytes}
+use Rattle.model.specs.Output.{overwritten}
 
-pub line-most : (n : ℕ) → n < 1000 → length (refusalLine n) ≤ 12
-unfolding refusalLine
-line-most n h = omega (arith, length-append (field refusedWord n) lineFeed, field-most refusedWord 2 n h)
+pub taken-written : (bytes out done : Bytes) (n : ℕ) → n ≡ length bytes → done ≡ overwritten bytes out → take n done ≡ bytes
+unfolding overwritten
+taken-written bytes out done n e p = ap (take n) p ∙ take-at bytes (drop (length bytes) out) n (sym e)

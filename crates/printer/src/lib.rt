@@ -1,7 +1,10 @@
 // The printing program, as a function that small programs run: reads room.bun in the working directory and writes the room's text,
-// or the line of a refusal. What it writes is `unit::text`'s output.
+// or the line of a refusal. What it writes is `page`'s output.
 ghost use mathlib.Core.Path.{_≡_};
-ghost use lib.ListN.{length};
+ghost use Prim.Native.Nat.{_≤_};
+ghost use lib.ListN.{length, take};
+ghost use Rattle.cords.specs.Cords.{cordLimit};
+ghost use Rattle.printer.specs.Page.{pageOf};
 use libc::STDOUT_FILENO;
 use unit::CountAnswer;
 
@@ -12,38 +15,49 @@ fn file_area() -> [u8; 65537]
     [0; 65537]
 }
 
-fn store_area() -> [u8; 49152]
+pub fn store_area() -> [u8; 49152]
     ensures { λ r. ⌜ 49152 ≡ length r ⌝ }
 {
     [0; 49152]
 }
 
-fn text_area() -> [u8; 8192]
+pub fn text_area() -> [u8; 8192]
     ensures { λ r. ⌜ 8192 ≡ length r ⌝ }
 {
     [0; 8192]
+}
+
+// Writes what the program writes for a room.bun of these bytes to the front of the output; answers how many bytes that is.
+// The store is room to work in.
+pub fn page(file: &[u8], store: &mut [u8], out: &mut [u8]) -> usize
+    requires { ⌜ 12 ≤ length (now out) ⌝ }
+    ensures { λ r. ⌜ take r (now (out .exit)) ≡ pageOf cordLimit (now (file .entry)) (now (store .entry)) (now (out .entry)) ⌝ }
+{
+    if 65536 < file.len() {
+        return printing::refusal_line(8, out);
+    }
+    match unit::text(file, store, out) {
+        CountAnswer::Count(n) => n,
+        CountAnswer::Refused(refusal) => printing::refusal_line(unit::number(refusal), out),
+    }
 }
 
 // Writes the line of a refusal.
 fn refuse(number: u8) {
     let mut line = [0u8; 12];
     let n = printing::refusal_line(number, &mut line);
-    io::write_all(STDOUT_FILENO, &line[..n]);
+    io::write_all(STDOUT_FILENO, octets::part(&line, 0, n));
 }
 
-// Writes what the program makes of the file's bytes. The text of 256 events is never longer than the area.
+// Writes the page of the file's bytes. The text of 256 events is never longer than the area.
 fn print_bytes(file: &[u8]) {
     let mut store = store_area();
     let mut out = text_area();
-    match unit::text(file, &mut store, &mut out) {
-        CountAnswer::Count(n) => {
-            io::write_all(STDOUT_FILENO, &out[..n]);
-        }
-        CountAnswer::Refused(refusal) => refuse(unit::number(refusal)),
-    }
+    let n = page(file, &mut store, &mut out);
+    io::write_all(STDOUT_FILENO, octets::part(&out, 0, n));
 }
 
-// "absent or above 65,536 bytes: refusal 8". One byte more than that is read, which tells a longer file.
+// An absent file is refused here. Of a file one byte more than the limit is read at most, by which `page` tells a longer one.
 pub fn print() {
     let fd = os::open_read(b"room.bun");
     if fd < 0 {
@@ -53,9 +67,5 @@ pub fn print() {
     let mut file = file_area();
     let got = io::read_full(fd, &mut file);
     libc::close(fd);
-    if got > 65536 {
-        refuse(8);
-        return;
-    }
-    print_bytes(&file[..got]);
+    print_bytes(octets::part(&file, 0, got));
 }

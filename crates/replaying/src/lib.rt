@@ -40,12 +40,6 @@ fn store_area() -> [u8; 49408]
     [165; 49408]
 }
 
-fn room_area() -> [u8; 49152]
-    ensures { λ r. ⌜ 49152 ≡ length r ⌝ }
-{
-    [0; 49152]
-}
-
 fn payload_area() -> [u8; 131072]
     ensures { λ r. ⌜ 131072 ≡ length r ⌝ }
 {
@@ -382,29 +376,17 @@ fn show_digest(payload: &[u8], s: State) -> Next {
     Next::Go(s)
 }
 
-// What the printing program writes, in hexadecimal: the line of a refusal, or the text of a room.bun of these bytes.
-
-fn write_refusal_line(number: u8) {
-    let mut line = [0u8; 12];
-    let end = printing::refusal_line(number, &mut line);
-    write_hex(octets::part(&line, 0, end));
+// Writes what the printing program writes for a room.bun of these bytes, in hexadecimal.
+fn write_page(file: &[u8]) {
+    let mut store = printer::store_area();
+    let mut out = printer::text_area();
+    let n = printer::page(file, &mut store, &mut out);
+    write_hex(octets::part(&out, 0, n));
 }
 
-fn write_page(file: &[u8], out: &mut [u8]) {
-    if 65536 < file.len() {
-        write_refusal_line(8);
-        return;
-    }
-    let mut room = room_area();
-    match text::text(file, &mut room, out) {
-        CountAnswer::Count(n) => write_hex(octets::part(out, 0, n)),
-        CountAnswer::Refused(refusal) => write_refusal_line(event::number(refusal)),
-    }
-}
-
-fn print_room(payload: &[u8], out: &mut [u8], s: State) -> Next {
+fn print_room(payload: &[u8], s: State) -> Next {
     write_word(b"print ");
-    write_page(payload, out);
+    write_page(payload);
     write_word(b"\n");
     Next::Go(s)
 }
@@ -416,7 +398,7 @@ fn perform_reading(letter: u8, payload: &[u8], store: &[u8], out: &mut [u8], s: 
         b'V' => verdict(payload, store, s),
         b'O' | b'M' | b'W' => report(letter, payload, store, out, s),
         b'D' => show_digest(payload, s),
-        b'R' => print_room(payload, out, s),
+        b'R' => print_room(payload, s),
         _ => bad_script(),
     }
 }
