@@ -11,6 +11,7 @@ EXAMPLES = [
 TEXT = bytes((i * 7 + 3) % 256 for i in range(258))
 LENGTHS = [range(0, 4), range(54, 67), range(118, 131), range(190, 195), range(255, 259)]
 EVENTS = [191, 192, 193]
+TABLE = bytes((i * 7 + i // 192 * 11 + 3) % 256 for i in range(9 * 192))
 
 
 def line(message):
@@ -24,3 +25,14 @@ for lengths in LENGTHS:
         print(line(TEXT[:n]))
 for n in EVENTS:
     print("event", line(TEXT[:n]))
+
+
+def table(events, n):
+    for i in range(n):
+        print("ids", n, hashlib.sha256(events[i * 192 : (i + 1) * 192]).hexdigest())
+    print("ids", n, bytes(32).hex())
+
+
+for n in range(10):
+    table(TABLE, n)
+table(TABLE[:1060], 9)

@@ -4,7 +4,7 @@ use native.Mathlib.Omega.{arith}
 use native.Mathlib.Numerals.{add-one}
 use mathlib.Core.Path.{_≡_, refl, sym, ap, _∙_}
 use mathlib.Core.Bool.{cond}
-use mathlib.Core.List.{List, [], _∷_, _++_, map, map-append, flatten, append-nil, append-assoc}
+use mathlib.Core.List.{List, [], _∷_, _++_, map, map-append, flatten, append-assoc}
 use lib.Dec.{eqb, ltb}
 use lib.ListN.{length, getD, take, drop, length-append, length-map, length-take, length-drop, take-append-drop, drop-of-length-le}
 use lib.Seq.{take-at, length-take-le, drop-cons}
@@ -12,7 +12,7 @@ use borrow.Author.Tests.{ltb-true, ltb-false, le-leb, lt-leb}
 use Rattle.lists.specs.Cases.{byBool}
 use Rattle.lists.specs.Bytes.{Bytes}
 use Rattle.lists.specs.Tests.{keep}
-use Rattle.lists.specs.Chunks.{chunks, length-chunks, chunks-last}
+use Rattle.lists.specs.Chunks.{chunks, length-chunks, chunks-last, flatten-last}
 use Rattle.octets.specs.Octets.{byteAt, be16, part, pasted}
 use Rattle.event.specs.Contents.{cordAt}
 use Rattle.model.specs.Output.{overwritten, overwritten-none, overwritten-more}
@@ -132,11 +132,6 @@ unfolding lines
 lines-size rows i =
     lines-length (map rowCord (chunks 8 rows i))
     ∙ ap (λ (k : ℕ). k * 22) (length-map (chunks 8 rows i) rowCord ∙ length-chunks 8 rows i)
-
-flatten-last : (l : List Bytes) (x : Bytes) → flatten (l ++ (x ∷ [])) ≡ flatten l ++ x
-unfolding flatten
-flatten-last [] x = append-nil x
-flatten-last (y ∷ ys) x = ap (λ (b : Bytes). y ++ b) (flatten-last ys x) ∙ sym (append-assoc y (flatten ys) x)
 
 lines-next : (rows : Bytes) (i : ℕ) → lines rows (i + 1) ≡ lines rows i ++ rowLine (rowCord (part rows (i * 8) 8))
 unfolding lines

@@ -8,7 +8,7 @@ use mathlib.Core.Option.{none}
 use mathlib.Core.List.{List, [], _∷_, map, List·Memᴰ, List·Memᴰ·cases-cons, Memᴰ·of-map}
 use lib.Dec.{eqb, leb, ltb}
 use lib.ListN.{length, getD, drop}
-use borrow.Author.Tests.{eqb-true, ltb-true, leb-true}
+use borrow.Author.Tests.{eqb-true, leb-true}
 use Rattle.lists.specs.Cases.{byBool, clash, and→}
 use Rattle.lists.specs.Bytes.{Bytes, sameBytes}
 use Rattle.lists.specs.Tests.{allOf}
@@ -17,10 +17,10 @@ use Rattle.cords.specs.Cords.{family, grade, limits, entryOf, cordLimit}
 use Rattle.event.specs.declared.Cord.{Cord}
 use Rattle.event.specs.declared.Body.{Body}
 use Rattle.event.specs.declared.Body.the-variants.{Create as create, Grant as grant, Revoke as revoke, Join as join, Unplug as unplug}
-use Rattle.event.specs.Fields.{kindOf, roomOf, portsGood, fieldsGood}
+use Rattle.event.specs.Fields.{kindOf, roomOf, fieldsGood}
 use Rattle.event.specs.Contents.{portA, portB, kindA, kindB, cordAt, bodyOf}
 use Rattle.event.specs.Checks.{cordGood, offerTests, refusal}
-use Rattle.event.specs.CheckLaws.{passed→, row, passes→}
+use Rattle.event.specs.CheckLaws.{passed→, passes→, join-ports}
 use Rattle.model.specs.Events.{Event}
 use Rattle.model.specs.Store.{eventOf, places, heldIn, creatorGood, storeGood}
 use Rattle.model.specs.StoreLaws.{checked→, checked-held, places-first, creator→, later→}
@@ -78,13 +78,6 @@ join-kind x c e =
 join-cord : (x : Bytes) (c : Cord) → bodyOf x ≡ join c → cordIn x ≡ c
 unfolding bodyOf
 join-cord x c e = let q : joined c (bodyOf x) ≡ c = ap (joined c) e in rw (join-kind x c e) at q
-
-join-ports : (x : Bytes) → fieldsGood x ≡ true → kindOf x ≡ 3 → (be16 x 8 < be16 x 10) × (be16 x 10 ≤ 1023)
-unfolding portsGood
-join-ports x f k =
-    let r : (ltb (be16 x 8) (be16 x 10) && leb (be16 x 10) 1023) ≡ true = rw k at (row x f 7 (omega arith)) in
-    let h = and→ (ltb (be16 x 8) (be16 x 10)) (leb (be16 x 10) 1023) r in
-    (ltb-true (be16 x 8) (be16 x 10) (h .0), leb-true (be16 x 10) 1023 (h .1))
 
 -- an offer that passes, passes check 6
 passes-cord : (entry : ℕ → ℕ → ℕ) (creator e : Bytes) → refusal entry creator e ≡ none → cordGood entry (bodyOf e) ≡ true

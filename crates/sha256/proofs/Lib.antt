@@ -1,4 +1,5 @@
 -- What several proofs cite.
+pub mod Digits
 pub mod Rounds
 pub mod Stores
 pub mod Blocks

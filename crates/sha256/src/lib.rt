@@ -2,30 +2,30 @@
 //
 // It rests on std's wrapping sums and on bytes::copy. Both public functions promise, for every slice, the 32 bytes that
 // `sha256` of specs/Sha256.antt gives: FIPS 180-4's own digest for each message of fewer than 2^64 bits.
-mod constants;
+pub mod constants;
 
 ghost use mathlib.Core.Path.{_≡_};
 ghost use mathlib.Core.List.{_++_};
-ghost use Prim.Native.Nat.{_+_, _*_, _/_, _^_, _<_, _≤_};
+ghost use Prim.Native.Nat.{_+_, _*_, _/_, _%_, _^_, _<_, _≤_};
 ghost use lib.ListN.{length, getD, take, set};
-ghost use Rattle.sha256.specs.Words.{Ch, Maj, Σ0, Σ1, σ0, σ1};
+ghost use Rattle.sha256.specs.Words.{_⊞_, Ch, Maj, Σ0, Σ1, σ0, σ1};
 ghost use Rattle.sha256.specs.Constants.{K};
 ghost use Rattle.sha256.specs.Sha256.{wordBytes, padded, wordAt, words, H0, nextWord, extended, oneRound, rounds};
 ghost use Rattle.sha256.specs.Sha256.{addStates, compress, hashBlocks, hashAll, digestBytes, sha256};
-use constants::EVENT_PADDING;
+use constants::EVENT_SCHEDULE;
 use constants::ROUND_CONSTANTS;
 use std::num::wrapping_add_u32;
 
 // A hash value, or the working variables of a round.
-struct State {
-    a: u32,
-    b: u32,
-    c: u32,
-    d: u32,
-    e: u32,
-    f: u32,
-    g: u32,
-    h: u32,
+pub struct State {
+    pub a: u32,
+    pub b: u32,
+    pub c: u32,
+    pub d: u32,
+    pub e: u32,
+    pub f: u32,
+    pub g: u32,
+    pub h: u32,
 }
 
 // SHA-256 of a message of any length.
@@ -39,17 +39,26 @@ pub fn digest(message: &[u8]) -> [u8; 32]
     to_bytes(hash_rest(s, &message[at..], (n as u64) << 3))
 }
 
-// SHA-256 too, of an event. For its 192 bytes the padding is one constant block: four compressions, and no copy.
+// SHA-256 too, of an event. For its 192 bytes the padding is one constant block, whose schedule is a constant too.
 pub fn event_id(event: &[u8]) -> [u8; 32]
     ensures { λ r. ⌜ r ≡ sha256 (now (event .entry)) ⌝ }
 {
     if event.len() != 192 {
         return digest(event);
     }
-    let s1 = compress(initial(), &event[0..64]);
-    let s2 = compress(s1, &event[64..128]);
-    let s3 = compress(s2, &event[128..192]);
-    to_bytes(compress(s3, &EVENT_PADDING))
+    to_bytes(hash_event(event, &ROUND_CONSTANTS))
+}
+
+// The hash value of an event: its three blocks, and the padding. The constants are lent once, since a constant that is lent is
+// copied.
+fn hash_event(event: &[u8], k: &[u32; 64]) -> State
+    requires { ⌜ (length (now event) ≡ 192) × (now k ≡ K) ⌝ }
+    ensures { λ r. ⌜ digestBytes r ≡ sha256 (now (event .entry)) ⌝ }
+{
+    let s1 = compress_by(initial(), &event[0..64], k);
+    let s2 = compress_by(s1, &event[64..128], k);
+    let s3 = compress_by(s2, &event[128..192], k);
+    add_states(s3, last_rounds(s3, &EVENT_SCHEDULE, k, 0))
 }
 
 // The hash value of the message's whole blocks.
@@ -89,7 +98,7 @@ fn hash_rest(s: State, rest: &[u8], bits: u64) -> State
 }
 
 // 5.3.3: the initial hash value.
-fn initial() -> State
+pub fn initial() -> State
     ensures { λ r. ⌜ r ≡ H0 ⌝ }
 {
     State {
@@ -104,14 +113,22 @@ fn initial() -> State
     }
 }
 
-// 6.2.2, for one block. The round constants are lent, since a constant that a loop indexes is copied at each round.
+// 6.2.2, for one block.
 fn compress(s: State, block: &[u8]) -> State
     requires { ⌜ length (now block) ≡ 64 ⌝ }
     ensures { λ r. ⌜ r ≡ compress s (now (block .entry)) ⌝ }
 {
+    compress_by(s, block, &ROUND_CONSTANTS)
+}
+
+// The same with lent constants.
+fn compress_by(s: State, block: &[u8], k: &[u32; 64]) -> State
+    requires { ⌜ (length (now block) ≡ 64) × (now k ≡ K) ⌝ }
+    ensures { λ r. ⌜ r ≡ compress s (now (block .entry)) ⌝ }
+{
     let mut w = [0u32; 64];
     load_words(block, &mut w);
-    add_states(s, all_rounds(s, &mut w, &ROUND_CONSTANTS))
+    add_states(s, all_rounds(s, &mut w, k))
 }
 
 // All rounds, with the block's 16 words at the front of w.
@@ -119,9 +136,22 @@ fn all_rounds(s: State, w: &mut [u32; 64], k: &[u32; 64]) -> State
     requires { ⌜ (length (now w) ≡ 64) × (now k ≡ K) ⌝ }
     ensures { λ r. ⌜ r ≡ rounds 64 (extended 48 (take 16 (now (w .entry)))) s ⌝ }
 {
-    let s1 = first_rounds(s, w, k);
-    let s2 = eight_rounds(s1, w, k, 48);
-    eight_rounds(s2, w, k, 56)
+    let s48 = first_rounds(s, w, k);
+    last_rounds(s48, w, k, 48)
+}
+
+// The rounds from t0 on, with a whole schedule at hand: where s0 is what t0 rounds make of z, the result is what all make of it.
+fn last_rounds(s0: State, w: &[u32; 64], k: &[u32; 64], t0: usize) -> State
+    requires { ⌜ (t0 ≤ 64) × (t0 % 8 ≡ 0) × (now k ≡ K) ⌝ }
+    ensures { λ r. ⌜ ((z : State) → s0 ≡ rounds t0 (now (w .entry)) z → r ≡ rounds 64 (now (w .entry)) z) ⌝ }
+{
+    let mut s = s0;
+    let mut t = t0;
+    while t < 64 {
+        s = eight_rounds(s, w, k, t);
+        t += 8;
+    }
+    s
 }
 
 // The first 48 rounds, which leave the whole schedule in w. To make it beside the rounds is faster than before them.
@@ -173,7 +203,7 @@ fn eight_rounds(s: State, w: &[u32; 64], k: &[u32; 64], t: usize) -> State
 }
 
 // The round t.
-fn round_at(s: State, w: &[u32; 64], k: &[u32; 64], t: usize) -> State
+pub fn round_at(s: State, w: &[u32; 64], k: &[u32; 64], t: usize) -> State
     requires { ⌜ (t < 64) × (now k ≡ K) ⌝ }
     ensures { λ r. ⌜ r ≡ oneRound (getD K t 0) (getD (now (w .entry)) t 0) s ⌝ }
 {
@@ -181,7 +211,7 @@ fn round_at(s: State, w: &[u32; 64], k: &[u32; 64], t: usize) -> State
 }
 
 // 6.2.2, step 3: one round, with its constant and its word.
-fn round(s: State, k: u32, w: u32) -> State
+pub fn round(s: State, k: u32, w: u32) -> State
     ensures { λ r. ⌜ r ≡ oneRound k w s ⌝ }
 {
     let x = wrapping_add_u32(wrapping_add_u32(s.h, big_sigma1(s.e)), ch(s.e, s.f, s.g));
@@ -200,7 +230,7 @@ fn round(s: State, k: u32, w: u32) -> State
 }
 
 // 6.2.2, step 4: the next hash value, from the one before and the working variables.
-fn add_states(s: State, t: State) -> State
+pub fn add_states(s: State, t: State) -> State
     ensures { λ r. ⌜ r ≡ addStates s t ⌝ }
 {
     State {
@@ -220,8 +250,15 @@ fn next_word(w: &[u32; 64], t: usize) -> u32
     requires { ⌜ t < 48 ⌝ }
     ensures { λ r. ⌜ r ≡ nextWord (now (w .entry)) t ⌝ }
 {
-    let x = wrapping_add_u32(small_sigma1(w[t + 14]), w[t + 9]);
-    wrapping_add_u32(wrapping_add_u32(x, small_sigma0(w[t + 1])), w[t])
+    schedule_sum(w[t], w[t + 1], w[t + 9], w[t + 14])
+}
+
+// That word, from the words t, t + 1, t + 9 and t + 14.
+pub fn schedule_sum(w0: u32, w1: u32, w9: u32, w14: u32) -> u32
+    ensures { λ r. ⌜ r ≡ σ1 w14 ⊞ w9 ⊞ σ0 w1 ⊞ w0 ⌝ }
+{
+    let x = wrapping_add_u32(small_sigma1(w14), w9);
+    wrapping_add_u32(wrapping_add_u32(x, small_sigma0(w1)), w0)
 }
 
 // 5.2.1: the block's 16 words, at the front of w.
@@ -237,7 +274,7 @@ fn load_words(block: &[u8], w: &mut [u32; 64])
 }
 
 // The word j of a block.
-fn load_word(block: &[u8], j: usize) -> u32
+pub fn load_word(block: &[u8], j: usize) -> u32
     requires { ⌜ (j < 16) × (length (now block) ≡ 64) ⌝ }
     ensures { λ r. ⌜ r ≡ wordAt (now (block .entry)) j ⌝ }
 {
@@ -253,7 +290,7 @@ fn word(a: u8, b: u8, c: u8, d: u8) -> u32
 }
 
 // The digest that a hash value gives.
-fn to_bytes(s: State) -> [u8; 32]
+pub fn to_bytes(s: State) -> [u8; 32]
     ensures { λ r. ⌜ r ≡ digestBytes s ⌝ }
 {
     let mut out = [0u8; 32];
@@ -287,17 +324,18 @@ fn store_word(out: &mut [u8], at: usize, x: u32)
     out[at + 3] = (x % 256) as u8;
 }
 
-// 4.1.2, (4.2) to (4.7): the functions on words.
+// 4.1.2, (4.2) to (4.7): the functions on words. The first two are written so as to need fewer operations; in a row of rounds
+// x ^ y is the y ^ z of the next.
 fn ch(x: u32, y: u32, z: u32) -> u32
     ensures { λ r. ⌜ r ≡ Ch x y z ⌝ }
 {
-    (x & y) ^ (!x & z)
+    z ^ (x & (y ^ z))
 }
 
 fn maj(x: u32, y: u32, z: u32) -> u32
     ensures { λ r. ⌜ r ≡ Maj x y z ⌝ }
 {
-    (x & y) ^ (x & z) ^ (y & z)
+    y ^ ((x ^ y) & (y ^ z))
 }
 
 fn big_sigma0(x: u32) -> u32

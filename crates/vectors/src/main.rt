@@ -1,5 +1,5 @@
-// Writes SHA-256 digests, a line for each message: its length and the digest in hexadecimal. tools/vectors.py makes the
-// expected lines by another implementation.
+// Writes SHA-256 digests, a line for each message: its length, or the number of events in its table, and the digest in
+// hexadecimal. tools/vectors.py makes the expected lines by another implementation.
 ghost use Prim.Native.Nat.{_≤_};
 ghost use lib.ListN.{length};
 use libc::STDOUT_FILENO;
@@ -15,6 +15,9 @@ fn main() {
     event(&text[0..191]);
     event(&text[0..192]);
     event(&text[0..193]);
+    let events = events();
+    tables(&events, 9);
+    table(&events[0..1060], 9);
 }
 
 // The examples that NIST gives with FIPS 180-4.
@@ -50,20 +53,58 @@ fn lengths(text: &[u8], first: usize, last: usize)
 }
 
 fn digest(message: &[u8]) {
-    show(message.len(), sha256::digest(message));
+    let digest = sha256::digest(message);
+    show(message.len(), &digest);
 }
 
 fn event(message: &[u8]) {
     io::write_all(STDOUT_FILENO, b"event ");
-    show(message.len(), sha256::event_id(message));
+    let id = sha256::event_id(message);
+    show(message.len(), &id);
 }
 
-fn show(length: usize, digest: [u8; 32]) {
-    io::print_decimal(STDOUT_FILENO, length as u64);
+// Nine events, no two the same.
+fn events() -> [u8; 1728] {
+    let mut bytes = [0u8; 1728];
+    let mut i = 0;
+    while i < 1728 {
+        bytes[i] = ((i * 7 + i / 192 * 11 + 3) % 256) as u8;
+        i += 1;
+    }
+    bytes
+}
+
+// The tables of the ids of the first n events, for each n from 0 to last.
+fn tables(events: &[u8], last: usize)
+    requires { ⌜ last ≤ 9 ⌝ }
+{
+    let mut n = 0;
+    while n <= last {
+        table(events, n);
+        n += 1;
+    }
+}
+
+// The table of n ids, made at once, and the entry behind them, which stays zero.
+fn table(events: &[u8], n: usize)
+    requires { ⌜ n ≤ 9 ⌝ }
+{
+    let mut ids = [0u8; 320];
+    digests::event_ids(events, n, &mut ids);
+    let mut i = 0;
+    while i <= n {
+        io::write_all(STDOUT_FILENO, b"ids ");
+        show(n, octets::part(&ids, i * 32, 32));
+        i += 1;
+    }
+}
+
+fn show(number: usize, bytes: &[u8]) {
+    io::print_decimal(STDOUT_FILENO, number as u64);
     io::write_all(STDOUT_FILENO, b" ");
     let mut i = 0;
-    while i < 32 {
-        io::print_hex(STDOUT_FILENO, digest[i] as u64, 2);
+    while i < bytes.len() {
+        io::print_hex(STDOUT_FILENO, octets::byte(bytes, i) as u64, 2);
         i += 1;
     }
     io::write_all(STDOUT_FILENO, b"\n");

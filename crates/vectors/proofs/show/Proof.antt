@@ -1,15 +1,17 @@
 -- `vectors::show` meets its contract.
 -- Assumes nothing.
 use Prim.Native.Nat.{_-_, _≤_}
+use lib.ListN.{length}
 use borrow.Author.Needs.{needs}
 use Rattle.vectors.proofs.show.Statement.{statement}
 use Rattle.vectors.proofs.show.Tie as tie
 
 abbrev Inv-loop : tie.InvT-loop
-Inv-loop length digest i₀ t6 i = i ≤ 32
+Inv-loop number bytes i₀ t5 i =
+    i ≤ length bytes
 
 abbrev μ-loop : tie.MeasureT-loop
-μ-loop length digest i₀ t6 i = 32 - i
+μ-loop number bytes i₀ t5 i = length bytes - i
 
 print-decimal-requires : tie.Need-print-decimal-requires Inv-loop μ-loop
 print-decimal-requires c κs = search needs
@@ -23,8 +25,8 @@ write-all-requires c κs = search needs
 loop-holds : tie.Need-loop-holds Inv-loop μ-loop
 loop-holds c = search needs
 
-array-read-print-hex : tie.Need-array-read-print-hex Inv-loop μ-loop
-array-read-print-hex c = search needs
+byte-requires : tie.Need-byte-requires Inv-loop μ-loop
+byte-requires c κs = search needs
 
 cast-print-hex : tie.Need-cast-print-hex Inv-loop μ-loop
 cast-print-hex c = search needs
@@ -60,7 +62,7 @@ show-spec =
     slice-aggregate-write-all
     write-all-requires
     loop-holds
-    array-read-print-hex
+    byte-requires
     cast-print-hex
     print-hex-requires
     add-i

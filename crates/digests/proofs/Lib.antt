@@ -1,0 +1,6 @@
+pub mod Laws
+pub mod Columns
+pub mod Rounds
+pub mod Sweep
+pub mod Compression
+pub mod Events

@@ -1,0 +1,41 @@
+-- `sha256::last_rounds` meets its contract.
+-- Assumes nothing.
+use mathlib.Core.Path.{_≡_}
+use Prim.Native.Nat.{_-_, _%_, _≤_}
+use native.Mathlib.Omega.{arith}
+use borrow.Author.Needs.{needs}
+use Rattle.sha256.specs.declared.State.{State}
+use Rattle.sha256.specs.Sha256.{rounds}
+use Rattle.sha256.proofs.last_rounds.Statement.{statement}
+use Rattle.sha256.proofs.last_rounds.Tie as tie
+
+abbrev Inv-loop : tie.InvT-loop
+Inv-loop w k t0 s₀ t₀ s t = (t ≤ 64) × (t % 8 ≡ 0) × ((z : State) → s₀ ≡ rounds t0 w z → s ≡ rounds t w z)
+
+abbrev μ-loop : tie.MeasureT-loop
+μ-loop w k t0 s₀ t₀ s t = 64 - t
+
+loop-holds : tie.Need-loop-holds Inv-loop μ-loop
+loop-holds c = (omega arith, omega arith, λ z e. e)
+
+eight-rounds-requires : tie.Need-eight-rounds-requires Inv-loop μ-loop
+eight-rounds-requires c κs = (omega arith, search needs)
+
+add-t : tie.Need-add-t Inv-loop μ-loop
+add-t c = search needs
+
+loop-less : tie.Need-loop-less Inv-loop μ-loop
+loop-less c = search needs
+
+loop-again : tie.Need-loop-again Inv-loop μ-loop
+loop-again c = (omega arith, omega arith, λ z e. c .eight-rounds .ensures z (c .before .before .loop .inv .2 z e))
+
+returns : tie.Need-returns Inv-loop μ-loop
+returns c =
+    let end : c .before .loop .t ≡ 64 = omega arith in
+    λ z e. rw end at (c .before .loop .inv .2 z e)
+
+pub last-rounds-spec : {M : Type 1} → statement M
+last-rounds-spec =
+    tie.close
+    (tie.spec Inv-loop μ-loop loop-holds eight-rounds-requires add-t loop-less loop-again returns)
