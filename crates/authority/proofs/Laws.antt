@@ -23,10 +23,12 @@ use Rattle.history.specs.Order.{Ordered}
 use Rattle.tables.specs.Filling.{more→, more←, last}
 use Rattle.authority.specs.KindLaws.{Kind, creating, granting, revoking, joining, unplugging, kind-of}
 use Rattle.authority.specs.AuthorityLaws.{and-three}
-use Rattle.authority.specs.Lines.{ifAncestor, targetAt, lineFrom}
+use Rattle.authority.specs.Lines.{ifAncestor, targetAt, lineFrom, Nearer}
 use Rattle.authority.specs.Sound.{grantAt, givenIn, rightFor, permitsAt, targetSuitsAt, parentsSound, soundAt, bit, SoundTable}
 use Rattle.authority.specs.declared.Presented.{Presented}
 use Rattle.authority.specs.declared.Presented.the-variants.{Gives, Nothing}
+use Rattle.authority.specs.declared.Walked.{Walked}
+use Rattle.authority.specs.declared.Walked.the-variants.{At}
 
 -- ── the target of a revoke ──────────────────────────────────────────────────────────────────────────────────────────────
 
@@ -70,6 +72,10 @@ module _ (Q : List ℕ) (sought place : ℕ) where
     unfolding lineFrom
     line-on zero ne h d = absurd (ne refl)
     line-on (suc f) ne h d = let e : suc f - 1 ≡ f = omega arith in rw (sym presents, lt-ltb p 256 h, ne-eqb sought p d, e)
+
+-- the steps left where a walk is not done
+pub walk-nearer : (left : ℕ) (w : Walked) (k f : ℕ) → w ≡ At k f → Nearer left w → f + 16 ≤ left
+walk-nearer left w k f e h = rw e at h
 
 -- ── what a presented event gives ────────────────────────────────────────────────────────────────────────────────────────
 

@@ -1,12 +1,13 @@
 -- Presented grants, targets and lines by places. M holds the rows of ancestors, Q the presented places, G the targets, S which
 -- places are sound (1) and T the levels.
-use Prim.Native.Nat.{ℕ, zero, suc, _<_}
+use Prim.Native.Nat.{ℕ, zero, suc, _+_, _<_, _≤_}
 use mathlib.Core.Path.{_≡_}
-use mathlib.Core.Bool.{true, _&&_, cond}
+use mathlib.Core.Bool.{Bool, true, false, _&&_, cond}
 use mathlib.Core.List.{List, [], _∷_, map}
 use lib.Dec.{eqb, ltb}
 use lib.ListN.{getD}
 use Rattle.lists.specs.Bytes.{Bytes}
+use Rattle.lists.specs.Tests.{anyOf}
 use Rattle.event.specs.Fields.{kindOf, presentedOf, targetOf}
 use Rattle.model.specs.Heights.{view}
 use Rattle.model.specs.Verdicts.{line, sound}
@@ -14,6 +15,8 @@ use Rattle.model.specs.Store.{heldIn}
 use Rattle.history.specs.Parents.{eventAt, placeBy}
 use Rattle.history.specs.Placed.{idOf}
 use Rattle.tables.specs.Bits.{bitAt}
+use Rattle.authority.specs.declared.Walked.{Walked}
+use Rattle.authority.specs.declared.Walked.the-variants.{Met, Ended, At}
 
 -- p where it is an ancestor of k, else 256, which is no place
 abbrev pub ifAncestor : List ℕ → ℕ → ℕ → ℕ
@@ -38,6 +41,18 @@ lineFrom Q (suc f) k = cond (ltb (getD Q k 0) 256) (getD Q k 0 ∷ lineFrom Q f 
 -- a line has no more members than the level says
 abbrev pub lineOf : List ℕ → List ℕ → ℕ → List ℕ
 lineOf Q T k = lineFrom Q (getD T k 0) k
+
+-- whether the sought place is met; by a walk that is not done, whether it is on the line from the place reached
+abbrev pub metAfter : List ℕ → ℕ → Walked → Bool
+metAfter Q sought Met = true
+metAfter Q sought Ended = false
+metAfter Q sought (At k f) = anyOf (eqb sought) (lineFrom Q f k)
+
+-- a walk that is not done has at least 16 steps fewer left
+abbrev pub Nearer : ℕ → Walked → Type 0
+Nearer left Met = Unit {0}
+Nearer left Ended = Unit {0}
+Nearer left (At k f) = f + 16 ≤ left
 
 -- the tables say what the model says of the events held
 pub record Authority (store : Bytes) (n : ℕ) (T Q G S : List ℕ) : Type 0 where

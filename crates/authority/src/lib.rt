@@ -9,7 +9,7 @@ ghost use Rattle.model.specs.Verdicts.{has, within};
 ghost use Rattle.store.specs.Tables.{idAt};
 ghost use Rattle.history.specs.Parents.{eventAt, placeBy};
 ghost use Rattle.history.specs.Order.{Ordered};
-ghost use Rattle.authority.specs.Lines.{ifAncestor, presentedAt, targetAt, lineFrom};
+ghost use Rattle.authority.specs.Lines.{ifAncestor, presentedAt, targetAt, lineFrom, metAfter, Nearer};
 ghost use Rattle.authority.specs.Sound.{PresentedTable, TargetTable, grantAt, givenIn, parentSound, parentsSound, rightFor, permitsAt, targetSuitsAt, soundAt, bit, SoundTable};
 use event::Grant;
 use store::Slot;
@@ -18,6 +18,13 @@ use store::Slot;
 pub enum Presented {
     Gives(Grant),
     Nothing,
+}
+
+// What a walk along a line comes to: it met the sought place, the line ended, or it reached a place with steps left.
+enum Walked {
+    Met,
+    Ended,
+    At { place: u16, left: u16 },
 }
 
 // The 192 bytes at a place.
@@ -110,22 +117,44 @@ pub fn target_places(
     }
 }
 
-// Whether the sought place is on the line of a place: the question is passed to the place presented, one step nearer the
-// creator. `left` bounds the steps to the creator and falls at each call.
+// Walks at most 16 steps along the line of a place, each to the place presented. `left` bounds the steps to the creator.
+fn walk(presented: &[u16], left: u16, sought: u16, place: u16) -> Walked
+    ensures { λ r. ⌜ metAfter (now (presented .entry)) sought r ≡ anyOf (eqb sought) (lineFrom (now (presented .entry)) left place) ⌝ }
+    ensures { λ r. ⌜ Nearer left r ⌝ }
+{
+    let end = if 16 < left { left - 16 } else { 0 };
+    let mut at = place;
+    let mut steps = left;
+    while end < steps {
+        let p = tables::entry(presented, at);
+        if 256 <= p {
+            return Walked::Ended;
+        }
+        if sought == p {
+            return Walked::Met;
+        }
+        at = p;
+        steps -= 1;
+    }
+    if steps == 0 {
+        return Walked::Ended;
+    }
+    Walked::At {
+        place: at,
+        left: steps,
+    }
+}
+
+// Whether the sought place is on the line of a place: the question is passed to the place 16 steps nearer the creator.
+// `left` bounds the steps to the creator and falls by 16 at each call.
 pub fn on_line(presented: &[u16], left: u16, sought: u16, place: u16) -> bool
     ensures { λ r. ⌜ r ≡ anyOf (eqb sought) (lineFrom (now (presented .entry)) left place) ⌝ }
 {
-    if left == 0 {
-        return false;
+    match walk(presented, left, sought, place) {
+        Walked::Met => true,
+        Walked::Ended => false,
+        Walked::At { place, left } => on_line(presented, left, sought, place),
     }
-    let p = tables::entry(presented, place);
-    if 256 <= p {
-        return false;
-    }
-    if sought == p {
-        return true;
-    }
-    on_line(presented, left - 1, sought, p)
 }
 
 // What the event at place p gives: the creator rights 7 to its author.

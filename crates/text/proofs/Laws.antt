@@ -11,7 +11,7 @@ use lib.Seq.{take-at, ext-getD}
 use borrow.Author.Tests.{eq-eqb, ne-eqb}
 use Rattle.lists.specs.Cases.{byBool, byOption, clash}
 use Rattle.lists.specs.Bytes.{Bytes}
-use Rattle.lists.specs.Tests.{keep-split, map-at}
+use Rattle.lists.specs.Tests.{map-at}
 use Rattle.lists.specs.Chunks.{chunk, length-chunks}
 use Rattle.cords.specs.Cords.{cordLimit}
 use Rattle.event.specs.declared.Body.{Body}
@@ -112,10 +112,6 @@ verdicts-all store n Z judged long =
     judged .entry k (omega arith)
     ∙ sym (map-at (λ e. verdict (heldView store n) (e .ident)) (heldIn store n) k (eventOf []) 0 (omega (arith, size, long))
     ∙ ap (λ (e : Event). verdict (heldView store n) (e .ident)) (map-at eventOf (places store n) k [] (eventOf []) inside ∙ ap eventOf (chunk 192 store n k (omega arith)))))
-
--- no more places of one rank than places
-pub rank-few : (Z l : List ℕ) (r : ℕ) → length l ≤ 256 → length (ofRank Z l r) ≤ 256
-rank-few Z l r h = omega (arith, keep-split (λ k. eqb (getD Z k 0) r) l)
 
 -- the text of the effective places is the room's
 pub text-same : {store : Bytes} {n : ℕ} {ids : Bytes} {index above levels l Z : List ℕ} (r : Ready cordLimit store n ids index above levels l)

@@ -17,7 +17,7 @@ use Rattle.history.specs.Parents.{ParentTable}
 use Rattle.history.specs.Levels.{Low, Fixed}
 use Rattle.history.specs.Order.{ofRank, ranked}
 use Rattle.history.specs.OrderLaws.{ranked→, rank-rest}
-use Rattle.history.specs.Placed.{index-ascends, listed→, level-low, settled-in, in-settled}
+use Rattle.history.specs.Placed.{index-ascends, index-apart, listed→, level-low, settled-in, in-settled}
 use Rattle.tables.specs.Filling.{everywhere}
 use Rattle.ancestry.specs.Ancestors.{AncestorRows}
 use Rattle.ancestry.specs.AncestorLaws.{ancestor-bits}
@@ -131,6 +131,7 @@ judgeable store n ids index P T M Q G S t =
     record {
       few = few b;
       few-places = omega (arith, few b, length-take n index);
+      apart = index-apart cordLimit store n (b .good) ids index (b .indexed);
       each = listed→ cordLimit store n (b .good) ids index (b .indexed);
       low = level-low cordLimit store n (b .good) ids index (b .indexed) P (b .parents) T (b .long) (b .fixed);
       presented-low =

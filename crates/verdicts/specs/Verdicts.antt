@@ -12,6 +12,7 @@ use Rattle.model.specs.Heights.{view}
 use Rattle.model.specs.Verdicts.{verdict}
 use Rattle.model.specs.Store.{heldIn}
 use Rattle.history.specs.Levels.{Low}
+use Rattle.history.specs.Order.{Apart}
 use Rattle.history.specs.Placed.{idOf}
 use Rattle.authority.specs.Lines.{Authority}
 use Rattle.authority.specs.PlaceLaws.{Tables}
@@ -34,6 +35,7 @@ pub record VerdictTable (n : ℕ) (T S E Z : List ℕ) : Type 0 where
 pub record Judgeable (n : ℕ) (places T Q S : List ℕ) : Type 0 where
   pub few : n ≤ 256
   pub few-places : length places ≤ 256
+  pub apart : Apart places
   pub each : (k : ℕ) → List·Memᴰ k places → k < n
   pub low : Low T
   pub presented-low : (k : ℕ) → k < n → (k ≡ 0 → ⊥) → getD S k 0 ≡ 1 → getD Q k 0 < 256

@@ -9,7 +9,8 @@ use native.Mathlib.Omega.{arith}
 use mathlib.Core.Path.{sym, ap, _∙_}
 use lib.Seq.{length-take-le}
 use Rattle.reports.specs.Lifted.{listed-few, all-may-run}
-use Rattle.text.proofs.Laws.{rank-few, text-same}
+use Rattle.history.specs.OrderLaws.{rank-few}
+use Rattle.text.proofs.Laws.{text-same}
 use borrow.Author.Needs.{needs}
 use Rattle.text.proofs.text_places.Statement.{statement}
 use Rattle.text.proofs.text_places.Tie as tie

@@ -25,7 +25,7 @@ by-rank-requires : tie.Need-by-rank-requires
 by-rank-requires c κs =
     let r = c .before .before .before .ranks in
     let b = c .before .before .before .before .before .before .before .before .before .before .before .before in
-    (b .pre .0 .few-places, rank-low _ _ _ _ _ _ (b .pre .0) (r .ensures) (r .kept .1 .1 .1 .0))
+    (b .pre .0 .apart, b .pre .0 .few-places, rank-low _ _ _ _ _ _ (b .pre .0) (r .ensures) (r .kept .1 .1 .1 .0))
 
 array-share-prefix-list : tie.Need-array-share-prefix-list
 array-share-prefix-list c =
