@@ -1,0 +1,126 @@
+//! What a run of the comparison has seen, so that a run that compares little shows.
+
+use crate::cases::{Answer, Kind, KINDS};
+
+/// Numbers of answers: 0 good, 1 to 11 refusals.
+const NUMBERS: usize = 12;
+/// The refusals that must come up. Number 11 stands for a height above 255, which 256 places cannot have.
+const EXPECTED: std::ops::RangeInclusive<usize> = 1..=10;
+/// The bytes of the small bundle that is damaged byte by byte.
+pub const BUNDLE: usize = 5 + 3 * 192 + 12;
+
+pub struct Seen {
+    pub calls: usize,
+    pub cases: usize,
+    answers: [[usize; NUMBERS]; KINDS.len()],
+    verdicts: [usize; 4],
+    /// The order's rows by verdict.
+    rows: [usize; 4],
+    /// Links standing, links ended, joins run.
+    links: [u64; 3],
+    repeats: usize,
+    pub twins: usize,
+    pub round_trips: usize,
+    event_bytes: [bool; 192],
+    bundle_bytes: [bool; BUNDLE],
+}
+
+impl Seen {
+    pub fn new() -> Seen {
+        Seen {
+            calls: 0,
+            cases: 0,
+            answers: [[0; NUMBERS]; KINDS.len()],
+            verdicts: [0; 4],
+            rows: [0; 4],
+            links: [0; 3],
+            repeats: 0,
+            twins: 0,
+            round_trips: 0,
+            event_bytes: [false; 192],
+            bundle_bytes: [false; BUNDLE],
+        }
+    }
+
+    /// One call, by what the reference answered.
+    pub fn call(&mut self, kind: Kind, a: &Answer) {
+        self.calls += 1;
+        self.answers[kind as usize][a.number as usize] += 1;
+        match kind {
+            _ if a.number > 0 => {}
+            Kind::Verdict => self.verdicts[a.values[0] as usize] += 1,
+            Kind::Take | Kind::TakeCounted => self.repeats += a.values[0] as usize,
+            Kind::Order => {
+                a.out.chunks_exact(36).take(a.values[0] as usize).for_each(|row| self.rows[row[34] as usize] += 1)
+            }
+            Kind::Map => self.links = [0, 1, 2].map(|i| self.links[i] + a.values[i]),
+            _ => {}
+        }
+    }
+
+    pub fn event_byte(&mut self, at: usize) {
+        self.event_bytes[at] = true;
+    }
+
+    pub fn bundle_byte(&mut self, at: usize) {
+        self.bundle_bytes[at] = true;
+    }
+
+    fn of_number(&self, number: usize) -> usize {
+        self.answers.iter().map(|a| a[number]).sum()
+    }
+
+    /// What the run should have seen and has not.
+    pub fn lacking(&self) -> Vec<String> {
+        let mut all = vec![];
+        let mut ask = |good: bool, what: String| {
+            if !good {
+                all.push(what);
+            }
+        };
+        for n in EXPECTED {
+            ask(self.of_number(n) > 0, format!("no refusal {n}"));
+        }
+        for (v, n) in self.verdicts.iter().enumerate() {
+            ask(*n > 0, format!("no verdict {v}"));
+        }
+        for kind in KINDS {
+            ask(self.answers[kind as usize][0] > 0, format!("no good {kind:?}"));
+        }
+        ask(self.repeats > 0, "no repeat".into());
+        ask(self.twins > 0, "no two units compared".into());
+        ask(self.round_trips > 0, "no written bundle taken".into());
+        ask(self.event_bytes.iter().all(|b| *b), "a byte of an event not damaged".into());
+        ask(self.bundle_bytes.iter().all(|b| *b), "a byte of a bundle not damaged".into());
+        all
+    }
+
+    pub fn print(&self) {
+        println!(
+            "{} calls in {} cases. Calls of each kind by answer (0 good, 1 to 11 refused):",
+            self.calls, self.cases
+        );
+        let heads: String = (0..NUMBERS).map(|n| format!("{n:>7}")).collect();
+        println!("{:<18}{heads}", "");
+        for kind in KINDS {
+            let row: String = self.answers[kind as usize].iter().map(|n| format!("{n:>7}")).collect();
+            println!("{:<18}{row}", format!("{kind:?}"));
+        }
+        let all: String = (0..NUMBERS).map(|n| format!("{:>7}", self.of_number(n))).collect();
+        println!("{:<18}{all}", "all");
+        let [w, u, v, e] = self.verdicts;
+        println!("verdicts asked: waiting {w}, unsound {u}, void {v}, effective {e}; repeats {}", self.repeats);
+        let ([_, u, v, e], [rows, ended, joins]) = (self.rows, self.links);
+        println!(
+            "rows of order: unsound {u}, void {v}, effective {e}; maps: links {rows}, ended {ended}, joins {joins}"
+        );
+        let bytes = |all: &[bool]| format!("{} of {}", all.iter().filter(|b| **b).count(), all.len());
+        println!(
+            "bytes damaged: event {}, bundle {}; pairs of units {}, round trips {}",
+            bytes(&self.event_bytes),
+            bytes(&self.bundle_bytes),
+            self.twins,
+            self.round_trips
+        );
+    }
+}

@@ -1,0 +1,35 @@
+use borrow.Author.Needs.{needs}
+use Rattle.unit_c.proofs.pelchunda_take_counted.Statement.{statement}
+use Rattle.unit_c.proofs.pelchunda_take_counted.Tie as tie
+
+to-tally-requires : tie.Need-to-tally-requires
+to-tally-requires c κs = search needs
+
+take-with-requires : tie.Need-take-with-requires
+take-with-requires c κs = search needs
+
+to-figures-requires : tie.Need-to-figures-requires
+to-figures-requires c κs = search needs
+
+show-placed-requires : tie.Need-show-placed-requires
+show-placed-requires c κs = search needs
+
+same-length : tie.Need-same-length
+same-length c = search needs
+
+returns : tie.Need-returns
+returns c =
+    let call = c .before .before .before .before .before .before .before .take-with .ensures in
+    let shown = c .show-placed .ensures in
+    rw (← call .0 .0) (shown .0, (call .1 .0, (call .0 .1, (shown .1, cc))))
+
+pub pelchunda-take-counted-spec : {M : Type 1} → statement M
+pelchunda-take-counted-spec =
+    tie.close
+    (tie.spec
+    to-tally-requires
+    take-with-requires
+    to-figures-requires
+    show-placed-requires
+    same-length
+    returns)

@@ -1,0 +1,328 @@
+/*
+ * Calls each function with null pointers of length 0, with wrong lengths and
+ * with whatever else it refuses, and checks the number that it returns and that
+ * what it was lent is as it was. Number 11 is left out: no store has it.
+ *
+ *     gcc -std=c99 -Wall -Wextra -Werror -I include examples/refusals.c target/staticlib/libunit_c.a -o refusals
+ *     ./refusals
+ */
+#include <stdio.h>
+#include <string.h>
+
+#include "pelchunda.h"
+
+#define STORE PELCHUNDA_STORE_BYTES
+#define EVENT PELCHUNDA_EVENT_BYTES
+#define ID PELCHUNDA_ID_BYTES
+
+static uint8_t store[STORE], store_before[STORE];
+static uint8_t out[STORE + 12], out_before[STORE + 12];
+static uint8_t zeros[STORE];
+
+static int failures;
+
+static void check(const char *what, int holds)
+{
+    if (!holds) {
+        printf("refusals: %s is not as expected\n", what);
+        failures++;
+    }
+}
+
+/* Keeps copies of the store and the output, to compare them with. */
+static void keep(void)
+{
+    memcpy(store_before, store, sizeof store);
+    memcpy(out_before, out, sizeof out);
+}
+
+static int kept(void)
+{
+    return memcmp(store, store_before, sizeof store) == 0 && memcmp(out, out_before, sizeof out) == 0;
+}
+
+/* ---- one refused call each ---- */
+
+static void start(const char *what, uint8_t want, uint8_t *s, size_t s_len, const uint8_t *e, size_t e_len)
+{
+    size_t count = 77;
+    uint8_t got = pelchunda_start(s, s_len, e, e_len, &count);
+    check(what, got == want && count == 77 && kept());
+}
+
+/* Both takes of one event. */
+static void take(const char *what, uint8_t want, uint8_t *s, size_t s_len, size_t n, const uint8_t *e, size_t e_len)
+{
+    size_t count = n;
+    uint8_t repeat = 77;
+    uint32_t tally[3] = {5, 6, 7};
+    uint8_t got = pelchunda_take(s, s_len, &count, e, e_len, &repeat);
+    check(what, got == want && count == n && repeat == 77 && kept());
+    got = pelchunda_take_counted(s, s_len, &count, e, e_len, &repeat, tally);
+    check(what, got == want && count == n && repeat == 77 && kept());
+    check(what, tally[0] == 5 && tally[1] == 6 && tally[2] == 8);
+}
+
+/* Both takes of a bundle. */
+static void bundle(const char *what, uint8_t want, uint8_t *s, size_t s_len, size_t n, const uint8_t *b, size_t b_len)
+{
+    size_t count = n;
+    uint32_t figures[3] = {5, 6, 7}, tally[3] = {8, 9, 10};
+    uint8_t got = pelchunda_take_bundle(s, s_len, &count, b, b_len, figures);
+    check(what, got == want && count == n && kept());
+    got = pelchunda_take_bundle_counted(s, s_len, &count, b, b_len, figures, tally);
+    check(what, got == want && count == n && kept());
+    check(what, figures[0] == 5 && figures[1] == 6 && figures[2] == 7);
+    check(what, tally[0] == 8 && tally[1] == 9 && tally[2] == 10);
+}
+
+/* Look-up and verdict. */
+static void ask(const char *what, uint8_t want, const uint8_t *s, size_t s_len, size_t n, const uint8_t *i, size_t i_len)
+{
+    uint16_t place = 7777;
+    uint8_t verdict = 77;
+    check(what, pelchunda_look_up(s, s_len, n, i, i_len, &place) == want && place == 7777 && kept());
+    check(what, pelchunda_verdict(s, s_len, n, i, i_len, &verdict) == want && verdict == 77 && kept());
+}
+
+static void order(const char *what, uint8_t want, const uint8_t *s, size_t s_len, size_t n, uint8_t *o, size_t o_len)
+{
+    size_t rows = 77;
+    check(what, pelchunda_order(s, s_len, n, o, o_len, &rows) == want && rows == 77 && kept());
+}
+
+static void map(const char *what, uint8_t want, const uint8_t *s, size_t s_len, size_t n, uint8_t *o, size_t o_len)
+{
+    size_t rows = 77, ended = 78, joins = 79;
+    uint8_t got = pelchunda_map(s, s_len, n, o, o_len, &rows, &ended, &joins);
+    check(what, got == want && rows == 77 && ended == 78 && joins == 79 && kept());
+}
+
+static void write_out(const char *what, uint8_t want, const uint8_t *s, size_t s_len, size_t n, uint8_t *o, size_t o_len)
+{
+    size_t bytes = 77;
+    check(what, pelchunda_write_out(s, s_len, n, o, o_len, &bytes) == want && bytes == 77 && kept());
+}
+
+static void text(const char *what, uint8_t want, const uint8_t *b, size_t b_len, uint8_t *s, size_t s_len, uint8_t *o, size_t o_len)
+{
+    size_t bytes = 77;
+    check(what, pelchunda_text(b, b_len, s, s_len, o, o_len, &bytes) == want && bytes == 77 && kept());
+}
+
+static void id(const char *what, uint8_t want, const uint8_t *e, size_t e_len, uint8_t *i, size_t i_len)
+{
+    check(what, pelchunda_id(e, e_len, i, i_len) == want && kept());
+}
+
+/* ---- events and bundles ---- */
+
+/* The creator is 192 zero bytes: a create by member 0, of room 0. */
+static const uint8_t *const creator = zeros;
+
+/* A join of ports 3 and 7, kinds a and b, by member 0 under the creator, with
+ * the creator for its parent. */
+static void make_join(uint8_t *e, uint8_t a, uint8_t b, uint8_t metres)
+{
+    memset(e, 0, EVENT);
+    e[0] = 3;
+    e[2] = 1;
+    e[5] = a;
+    e[6] = b;
+    e[9] = 3;
+    e[11] = 7;
+    e[13] = metres;
+    check("id of the creator", pelchunda_id(creator, EVENT, e + 32, ID) == 0);
+    memcpy(e + 96, e + 32, ID);
+}
+
+/* A trailer behind n events. */
+static void make_trailer(uint8_t *at, unsigned n)
+{
+    unsigned distance = n * EVENT;
+    memset(at, 0, 8);
+    at[2] = (uint8_t)(distance / 256);
+    at[3] = (uint8_t)(distance % 256);
+    at[5] = (uint8_t)n;
+    memcpy(at + 8, "BACK", 4);
+}
+
+/* ---- the trials ---- */
+
+static void try_start(void)
+{
+    uint8_t e[EVENT];
+    keep();
+    start("start: null store", 1, NULL, 0, creator, EVENT);
+    start("start: null event", 1, store, STORE, NULL, 0);
+    start("start: all null", 1, NULL, 0, NULL, 0);
+    start("start: short store", 1, store, STORE - 1, creator, EVENT);
+    start("start: short event", 1, store, STORE, creator, EVENT - 1);
+    start("start: long event", 1, store, STORE, zeros, EVENT + 1);
+    memcpy(e, creator, EVENT);
+    e[1] = 32;
+    start("start: author 32", 3, store, STORE, e, EVENT);
+    make_join(e, 4, 5, 12);
+    start("start: with a join", 5, store, STORE, e, EVENT);
+}
+
+static void try_take(void)
+{
+    uint8_t e[EVENT];
+    keep();
+    take("take: null store", 1, NULL, 0, 1, creator, EVENT);
+    take("take: null event", 1, store, STORE, 1, NULL, 0);
+    take("take: all null", 1, NULL, 0, 1, NULL, 0);
+    take("take: short store", 1, store, STORE - 1, 1, creator, EVENT);
+    take("take: short event", 1, store, STORE, 1, creator, EVENT - 1);
+    take("take: count 0", 2, store, STORE, 0, creator, EVENT);
+    take("take: count 2 of 1", 2, store, STORE, 2, creator, EVENT);
+    take("take: count 257", 2, store, STORE, 257, creator, EVENT);
+    take("take: largest count", 2, store, STORE, (size_t)-1, creator, EVENT);
+    memcpy(e, creator, EVENT);
+    e[1] = 1;
+    take("take: another create", 5, store, STORE, 1, e, EVENT);
+    e[1] = 32;
+    take("take: author 32", 3, store, STORE, 1, e, EVENT);
+    make_join(e, 3, 4, 1);
+    take("take: kinds 3 and 4", 6, store, STORE, 1, e, EVENT);
+    e[31] = 1;
+    take("take: another room", 4, store, STORE, 1, e, EVENT);
+}
+
+static void try_bundle(void)
+{
+    uint8_t b[12];
+    keep();
+    make_trailer(b, 0);
+    bundle("bundle: null store", 1, NULL, 0, 1, b, 12);
+    bundle("bundle: null bundle", 8, store, STORE, 1, NULL, 0);
+    bundle("bundle: all null", 1, NULL, 0, 1, NULL, 0);
+    bundle("bundle: short store", 1, store, STORE - 1, 1, b, 12);
+    bundle("bundle: count 0", 2, store, STORE, 0, b, 12);
+    bundle("bundle: 11 bytes", 8, store, STORE, 1, b + 1, 11);
+    make_trailer(b, 1);
+    bundle("bundle: past the front", 8, store, STORE, 1, b, 12);
+    make_trailer(b, 0);
+    b[11] = 'k';
+    bundle("bundle: BACk", 8, store, STORE, 1, b, 12);
+}
+
+static void try_reports(void)
+{
+    keep();
+    ask("ask: null store", 1, NULL, 0, 1, zeros, ID);
+    ask("ask: null id", 1, store, STORE, 1, NULL, 0);
+    ask("ask: short store", 1, store, STORE - 1, 1, zeros, ID);
+    ask("ask: short id", 1, store, STORE, 1, zeros, ID - 1);
+    ask("ask: count 0", 2, store, STORE, 0, zeros, ID);
+    ask("ask: id not held", 9, store, STORE, 1, zeros, ID);
+    order("order: null store", 1, NULL, 0, 1, out, sizeof out);
+    order("order: null output", 10, store, STORE, 1, NULL, 0);
+    order("order: count 0", 2, store, STORE, 0, out, sizeof out);
+    order("order: 35 bytes", 10, store, STORE, 1, out, 35);
+    write_out("write-out: null store", 1, NULL, 0, 1, out, sizeof out);
+    write_out("write-out: null output", 10, store, STORE, 1, NULL, 0);
+    write_out("write-out: count 257", 2, store, STORE, 257, out, sizeof out);
+    write_out("write-out: 203 bytes", 10, store, STORE, 1, out, 203);
+}
+
+static void try_map(void)
+{
+    uint8_t e[EVENT], repeat = 77;
+    size_t count = 1, rows = 77, ended = 77, joins = 77;
+    keep();
+    map("map: null store", 1, NULL, 0, 1, out, sizeof out);
+    map("map: count 0", 2, store, STORE, 0, out, sizeof out);
+    check("map: no link, null output", pelchunda_map(store, STORE, 1, NULL, 0, &rows, &ended, &joins) == 0);
+    check("map: no link", rows == 0 && ended == 0 && joins == 0 && kept());
+    make_join(e, 4, 5, 12);
+    check("join", pelchunda_take(store, STORE, &count, e, EVENT, &repeat) == 0 && count == 2 && repeat == 0);
+    keep();
+    check("join again", pelchunda_take(store, STORE, &count, e, EVENT, &repeat) == 0 && count == 2 && repeat == 1 && kept());
+    map("map: one link, null output", 10, store, STORE, 2, NULL, 0);
+    map("map: one link, 7 bytes", 10, store, STORE, 2, out, 7);
+}
+
+/* A bundle of the creator alone starts a unit; the store is then the room's. */
+static void try_text(void)
+{
+    uint8_t b[EVENT + 12];
+    size_t bytes = 77;
+    memset(store, 0xa5, sizeof store);
+    memcpy(b, creator, EVENT);
+    make_trailer(b + EVENT, 1);
+    keep();
+    text("text: null store", 1, b, sizeof b, NULL, 0, out, sizeof out);
+    text("text: null bundle", 8, NULL, 0, store, STORE, out, sizeof out);
+    text("text: short store", 1, b, sizeof b, store, STORE - 1, out, sizeof out);
+    text("text: cut bundle", 8, b, sizeof b - 1, store, STORE, out, sizeof out);
+    b[1] = 32;
+    text("text: author 32", 3, b, sizeof b, store, STORE, out, sizeof out);
+    make_join(b, 4, 5, 12);
+    text("text: a join first", 5, b, sizeof b, store, STORE, out, sizeof out);
+    make_trailer(b + EVENT, 0);
+    text("text: no event", 5, b, sizeof b, store, STORE, out, sizeof out);
+    memcpy(b, creator, EVENT);
+    make_trailer(b + EVENT, 1);
+    check("text: null output", pelchunda_text(b, sizeof b, store, STORE, NULL, 0, &bytes) == 10 && bytes == 77);
+    check("text: the room's store", memcmp(store, creator, EVENT) == 0);
+    check("text: the rest of the store", memcmp(store + EVENT, store_before + EVENT, STORE - EVENT) == 0);
+}
+
+static void try_id(void)
+{
+    uint8_t i[ID];
+    memset(i, 0xa5, sizeof i);
+    id("id: null event", 1, NULL, 0, i, ID);
+    id("id: null id", 1, creator, EVENT, NULL, 0);
+    id("id: short event", 1, creator, EVENT - 1, i, ID);
+    id("id: short id", 1, creator, EVENT, i, ID - 1);
+    for (size_t k = 0; k < ID; k++) {
+        check("id: as it was", i[k] == 0xa5);
+    }
+}
+
+/* 256 held: a new event meets 7, a held one is a repeat. A figure of the tally
+ * at its end stays there. */
+static void try_full(void)
+{
+    uint8_t e[EVENT], repeat = 77;
+    size_t count = 77;
+    uint32_t tally[3] = {0, 0xffffffff, 0xffffffff};
+    check("full: start", pelchunda_start(store, STORE, creator, EVENT, &count) == 0 && count == 1);
+    make_join(e, 4, 5, 12);
+    for (unsigned k = 1; k < PELCHUNDA_PLACES; k++) {
+        e[32] = (uint8_t)k;
+        check("full: take", pelchunda_take_counted(store, STORE, &count, e, EVENT, &repeat, tally) == 0 && repeat == 0);
+    }
+    check("full: 256 held", count == PELCHUNDA_PLACES && tally[0] == PELCHUNDA_PLACES - 1);
+    keep();
+    repeat = 77;
+    check("full: repeat", pelchunda_take_counted(store, STORE, &count, e, EVENT, &repeat, tally) == 0 && repeat == 1);
+    e[33] ^= 1;
+    take("full: a new event", 7, store, STORE, count, e, EVENT);
+    check("full: refused", pelchunda_take_counted(store, STORE, &count, e, EVENT, &repeat, tally) == 7 && kept());
+    check("full: tally", tally[0] == PELCHUNDA_PLACES - 1 && tally[1] == 0xffffffff && tally[2] == 0xffffffff);
+}
+
+int main(void)
+{
+    size_t count = 77;
+    memset(store, 0xa5, sizeof store);
+    memset(out, 0x5a, sizeof out);
+    try_start();
+    check("start", pelchunda_start(store, STORE, creator, EVENT, &count) == 0 && count == 1);
+    try_take();
+    try_bundle();
+    try_reports();
+    try_map();
+    try_id();
+    try_text();
+    try_full();
+    if (failures != 0) {
+        return 1;
+    }
+    printf("refusals: all as expected\n");
+    return 0;
+}
