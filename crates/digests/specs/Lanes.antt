@@ -4,7 +4,8 @@ use mathlib.Core.Path.{_≡_}
 use Prim.Native.Nat.{ℕ, zero, suc, _+_, _*_, _<_}
 use lib.ListN.{getD, set, take}
 use Rattle.sha256.specs.Constants.{K}
-use Rattle.sha256.specs.Sha256.{nextWord, oneRound}
+use Rattle.sha256.specs.Words.{_⊞_}
+use Rattle.sha256.specs.Sha256.{padded, schedule, nextWord, oneRound}
 use Rattle.sha256.specs.declared.State.{State}
 
 -- the first n words of lane l
@@ -60,6 +61,18 @@ steps t (suc n) x = oneStep (t + n) (steps t n x)
 unfoldable pub roundsFrom : ℕ → ℕ → List ℕ → State → State
 roundsFrom t zero w s = s
 roundsFrom t (suc n) w s = oneRound (getD K (t + n) 0) (getD w (t + n) 0) (roundsFrom t n w s)
+
+-- the schedule of the padding's block, which is the same for all events
+abbrev pub paddingSchedule : List ℕ
+paddingSchedule = schedule (padded [] 1536)
+
+-- the first n sums of a round constant and a word of w, and those of the padding
+unfoldable pub sums : ℕ → List ℕ → List ℕ
+sums zero w = []
+sums (suc n) w = sums n w ++ ((getD K n 0 ⊞ getD w n 0) ∷ [])
+
+abbrev pub paddingSums : List ℕ
+paddingSums = sums 64 paddingSchedule
 
 -- in each of the four lanes
 abbrev pub EachLane : (ℕ → Type 0) → Type 0

@@ -8,9 +8,10 @@ ghost use Rattle.sha256.specs.Constants.{K};
 ghost use Rattle.sha256.specs.Sha256.{padded, messageBlock, wordAt, words, H0, schedule, extended, oneRound, rounds};
 ghost use Rattle.sha256.specs.Sha256.{addStates, compress, digestBytes, sha256};
 ghost use Rattle.digests.specs.Lanes.{scheduleAt, blockAt, stateAt, laneAt, withWord, steps, roundsFrom};
+ghost use Rattle.digests.specs.Lanes.{paddingSchedule, paddingSums};
 ghost use Rattle.digests.specs.Lanes.{EachLane, OtherSchedules, OtherStates};
+use crate::constants::PADDING_SUMS;
 use sha256::State;
-use sha256::constants::EVENT_SCHEDULE;
 
 // The state of lane l.
 fn state_of(st: &[u32; 32], l: usize) -> State
@@ -160,43 +161,51 @@ fn all_rounds(st: &mut [u32; 32], w: &mut [u32; 256], k: &[u32; 64])
     last_rounds(st, w, k);
 }
 
-// In lane l, the rounds t to t + 3 with the schedule p, which is the same in each lane.
-fn lane_same_rounds(st: &mut [u32; 32], p: &[u32; 64], k: &[u32; 64], t: usize, l: usize)
-    requires { ⌜ (t + 4 ≤ 64) × (l < 4) × (length (now st) ≡ 32) × (now k ≡ K) ⌝ }
+// The round t of the padding's block, with the sum of its constant and its word.
+fn padding_round(s: State, q: &[u32; 64], t: usize) -> State
+    requires { ⌜ (t < 64) × (now q ≡ paddingSums) ⌝ }
+    ensures { λ r. ⌜ r ≡ oneRound (getD K t 0) (getD paddingSchedule t 0) s ⌝ }
+{
+    sha256::round(s, q[t], 0)
+}
+
+// In lane l, the rounds t to t + 3 of the padding's block.
+fn lane_padding_rounds(st: &mut [u32; 32], q: &[u32; 64], t: usize, l: usize)
+    requires { ⌜ (t + 4 ≤ 64) × (l < 4) × (length (now st) ≡ 32) × (now q ≡ paddingSums) ⌝ }
     ensures { λ _. ⌜ length (now (st .exit)) ≡ 32 ⌝ }
-    ensures { λ _. ⌜ stateAt l (now (st .exit)) ≡ roundsFrom t 4 (now (p .entry)) (stateAt l (now (st .entry))) ⌝ }
+    ensures { λ _. ⌜ stateAt l (now (st .exit)) ≡ roundsFrom t 4 paddingSchedule (stateAt l (now (st .entry))) ⌝ }
     ensures { λ _. ⌜ OtherStates l (now (st .entry)) (now (st .exit)) ⌝ }
 {
     let s = state_of(st, l);
-    let q1 = sha256::round_at(s, p, k, t);
-    let q2 = sha256::round_at(q1, p, k, t + 1);
-    let q3 = sha256::round_at(q2, p, k, t + 2);
-    let q4 = sha256::round_at(q3, p, k, t + 3);
+    let q1 = padding_round(s, q, t);
+    let q2 = padding_round(q1, q, t + 1);
+    let q3 = padding_round(q2, q, t + 2);
+    let q4 = padding_round(q3, q, t + 3);
     put_state(st, l, q4);
 }
 
-// In each lane, the rounds t to t + 3 with the schedule p.
-fn lanes_same_rounds(st: &mut [u32; 32], p: &[u32; 64], k: &[u32; 64], t: usize)
-    requires { ⌜ (t + 4 ≤ 64) × (length (now st) ≡ 32) × (now k ≡ K) ⌝ }
+// In each lane, the rounds t to t + 3 of the padding's block.
+fn lanes_padding_rounds(st: &mut [u32; 32], q: &[u32; 64], t: usize)
+    requires { ⌜ (t + 4 ≤ 64) × (length (now st) ≡ 32) × (now q ≡ paddingSums) ⌝ }
     ensures { λ _. ⌜ length (now (st .exit)) ≡ 32 ⌝ }
-    ensures { λ _. ⌜ EachLane (λ l. stateAt l (now (st .exit)) ≡ roundsFrom t 4 (now (p .entry)) (stateAt l (now (st .entry)))) ⌝ }
+    ensures { λ _. ⌜ EachLane (λ l. stateAt l (now (st .exit)) ≡ roundsFrom t 4 paddingSchedule (stateAt l (now (st .entry)))) ⌝ }
 {
     let mut l = 0;
     while l < 4 {
-        lane_same_rounds(st, p, k, t, l);
+        lane_padding_rounds(st, q, t, l);
         l += 1;
     }
 }
 
-// In each lane, all rounds with the schedule p.
-fn same_rounds(st: &mut [u32; 32], p: &[u32; 64], k: &[u32; 64])
-    requires { ⌜ (length (now st) ≡ 32) × (now k ≡ K) ⌝ }
+// In each lane, all rounds of the padding's block.
+fn padding_rounds(st: &mut [u32; 32], q: &[u32; 64])
+    requires { ⌜ (length (now st) ≡ 32) × (now q ≡ paddingSums) ⌝ }
     ensures { λ _. ⌜ length (now (st .exit)) ≡ 32 ⌝ }
-    ensures { λ _. ⌜ EachLane (λ l. stateAt l (now (st .exit)) ≡ rounds 64 (now (p .entry)) (stateAt l (now (st .entry)))) ⌝ }
+    ensures { λ _. ⌜ EachLane (λ l. stateAt l (now (st .exit)) ≡ rounds 64 paddingSchedule (stateAt l (now (st .entry)))) ⌝ }
 {
     let mut t = 0;
     while t < 64 {
-        lanes_same_rounds(st, p, k, t);
+        lanes_padding_rounds(st, q, t);
         t += 4;
     }
 }
@@ -253,7 +262,7 @@ fn load_events(events: &[u8], b: usize, w: &mut [u32; 256])
     }
 }
 
-// In each lane, all rounds for the block b of its padded event. The fourth block is the padding, whose schedule is a constant.
+// In each lane, all rounds for the block b of its padded event. The fourth block is the padding, the same for all events.
 fn block_rounds(st: &mut [u32; 32], w: &mut [u32; 256], k: &[u32; 64], events: &[u8], b: usize)
     requires { ⌜ (length (now st) ≡ 32) × (length (now w) ≡ 256) × (now k ≡ K) × (length (now events) ≡ 768) × (b < 4) ⌝ }
     ensures { λ _. ⌜ (length (now (st .exit)) ≡ 32) × (length (now (w .exit)) ≡ 256) ⌝ }
@@ -263,7 +272,7 @@ fn block_rounds(st: &mut [u32; 32], w: &mut [u32; 256], k: &[u32; 64], events: &
         load_events(events, b, w);
         all_rounds(st, w, k);
     } else {
-        same_rounds(st, &EVENT_SCHEDULE, k);
+        padding_rounds(st, &PADDING_SUMS);
     }
 }
 

@@ -2,24 +2,24 @@ use mathlib.Core.Path.{_≡_}
 use Prim.Native.Nat.{_-_, _≤_}
 use native.Mathlib.Omega.{arith}
 use lib.ListN.{length}
-use Rattle.digests.specs.Lanes.{stateAt, roundsFrom}
+use Rattle.digests.specs.Lanes.{paddingSchedule, stateAt, roundsFrom}
 use Rattle.digests.proofs.Sweep.{Below, none-done, one-done, all-done}
 use borrow.Author.Needs.{needs}
-use Rattle.digests.proofs.lanes.lanes_same_rounds.Statement.{statement}
-use Rattle.digests.proofs.lanes.lanes_same_rounds.Tie as tie
+use Rattle.digests.proofs.lanes.lanes_padding_rounds.Statement.{statement}
+use Rattle.digests.proofs.lanes.lanes_padding_rounds.Tie as tie
 
 abbrev Inv-loop : tie.InvT-loop
-Inv-loop st₀ p k t l₀ st l =
-    (l ≤ 4) × (length st ≡ 32) × Below (λ _. roundsFrom t 4 p) l (λ j. stateAt j st₀) (λ j. stateAt j st)
+Inv-loop st₀ q t l₀ st l =
+    (l ≤ 4) × (length st ≡ 32) × Below (λ _. roundsFrom t 4 paddingSchedule) l (λ j. stateAt j st₀) (λ j. stateAt j st)
 
 abbrev μ-loop : tie.MeasureT-loop
-μ-loop st₀ p k t l₀ st l = 4 - l
+μ-loop st₀ q t l₀ st l = 4 - l
 
 loop-holds : tie.Need-loop-holds Inv-loop μ-loop
 loop-holds c = (search needs, c .pre .1, none-done)
 
-lane-same-rounds-requires : tie.Need-lane-same-rounds-requires Inv-loop μ-loop
-lane-same-rounds-requires c κs = search needs
+lane-padding-rounds-requires : tie.Need-lane-padding-rounds-requires Inv-loop μ-loop
+lane-padding-rounds-requires c κs = search needs
 
 add-l : tie.Need-add-l Inv-loop μ-loop
 add-l c = search needs
@@ -30,7 +30,7 @@ loop-less c = search needs
 loop-again : tie.Need-loop-again Inv-loop μ-loop
 loop-again c =
     let q = c .before .before .before in
-    let e = c .lane-same-rounds .ensures in
+    let e = c .lane-padding-rounds .ensures in
     (omega arith, e .0, one-done (omega arith) (q .loop .inv .2) (e .1 .0) (e .1 .1))
 
 returns : tie.Need-returns Inv-loop μ-loop
@@ -38,7 +38,7 @@ returns c =
     let q = c .before in
     (q .loop .inv .1, all-done (omega arith) (q .loop .inv .2))
 
-pub lanes-same-rounds-spec : {M : Type 1} → statement M
-lanes-same-rounds-spec =
+pub lanes-padding-rounds-spec : {M : Type 1} → statement M
+lanes-padding-rounds-spec =
     tie.close
-    (tie.spec Inv-loop μ-loop loop-holds lane-same-rounds-requires add-l loop-less loop-again returns)
+    (tie.spec Inv-loop μ-loop loop-holds lane-padding-rounds-requires add-l loop-less loop-again returns)
