@@ -1,19 +1,19 @@
 -- Rounds in one lane.
 use mathlib.Core.Path.{_≡_, refl, ap, _∙_}
 use mathlib.Core.List.{List, []}
-use Prim.Native.Nat.{ℕ, zero, suc, _+_, _*_, _<_}
+use Prim.Native.Nat.{ℕ, zero, suc, _+_, _*_, _/_, _<_}
 use native.Mathlib.Nat.{add-zero}
 use native.Mathlib.Omega.{arith}
 use lib.Dec.{ltb}
 use lib.ListN.{length, getD, set, length-append, List·getD-append}
-use lib.Seq.{getD-at}
+use lib.Seq.{getD-at, getD-set-same, getD-set-other}
 use borrow.Author.Tests.{ltb-true, ltb-false}
 use Rattle.lists.specs.Cases.{byBool}
 use Rattle.sha256.specs.Words.{_⊞_, Ch, Σ1, σ0, σ1}
 use Rattle.sha256.specs.Constants.{K}
 use Rattle.sha256.specs.Sha256.{nextWord, oneRound}
 use Rattle.sha256.specs.declared.State.{State}
-use Rattle.digests.specs.Lanes.{scheduleAt, Lane, withWord, oneStep, steps, roundsFrom, sums, OtherSchedules}
+use Rattle.digests.specs.Lanes.{scheduleAt, Lane, withWord, oneStep, steps, roundsFrom, sums, FourTimes, OtherSchedules}
 use Rattle.digests.proofs.Columns.{getD-column, column-own, column-other}
 
 module _ (l t : ℕ) (w : List ℕ) (h : t < 48) where
@@ -92,3 +92,20 @@ pub sum-round : (w q : List ℕ) (t : ℕ) (s : State) {r : State} → t < 64 �
     → r ≡ oneRound (getD K t 0) (getD w t 0) s
 sum-round w q t s h e f =
     f ∙ ap (λ (x : ℕ). oneRound x 0 s) (rw e (getD-sums 64 t w h)) ∙ round-sum (getD K t 0) (getD w t 0) s
+
+-- the constant of the round t in lane l, of a table that has each four times
+pub constant-at : (k k4 : List ℕ) (l t : ℕ) → l < 4 → t < 64 → FourTimes k k4 → getD k4 (l + t * 4) 0 ≡ getD k t 0
+unfolding FourTimes
+constant-at k k4 l t hl ht f =
+    let e : (l + t * 4) / 4 ≡ t = omega arith in
+    rw e at (f (l + t * 4) (omega arith))
+
+-- the first n entries of such a table, and one more
+abbrev pub Repeated : List ℕ → List ℕ → ℕ → Type 0
+Repeated k r n = (i : ℕ) → i < n → getD r i 0 ≡ getD k (i / 4) 0
+
+pub repeated-turn : (k r : List ℕ) (n : ℕ) → n < length r → Repeated k r n → Repeated k (set r n (getD k (n / 4) 0)) (n + 1)
+repeated-turn k r n h f i hi =
+    byBool (ltb i n)
+    (λ e. let b : i < n = ltb-true i n e in getD-set-other r n i (getD k (n / 4) 0) 0 (λ q. omega arith) ∙ f i b)
+    (λ e. let b : i ≡ n = omega (arith, ltb-false i n e) in rw b (getD-set-same r n (getD k (n / 4) 0) 0 h))

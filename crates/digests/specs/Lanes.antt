@@ -1,7 +1,7 @@
 -- Four computations of SHA-256 side by side: of an array of words, the word j of lane l stands at l + j * 4.
 use mathlib.Core.List.{List, [], _∷_, _++_}
 use mathlib.Core.Path.{_≡_}
-use Prim.Native.Nat.{ℕ, zero, suc, _+_, _*_, _<_}
+use Prim.Native.Nat.{ℕ, zero, suc, _+_, _*_, _/_, _<_}
 use lib.ListN.{getD, set, take}
 use Rattle.sha256.specs.Constants.{K}
 use Rattle.sha256.specs.Words.{_⊞_}
@@ -73,6 +73,10 @@ sums (suc n) w = sums n w ++ ((getD K n 0 ⊞ getD w n 0) ∷ [])
 
 abbrev pub paddingSums : List ℕ
 paddingSums = sums 64 paddingSchedule
+
+-- the 64 words of k, each four times, in k4
+unfoldable pub FourTimes : List ℕ → List ℕ → Type 0
+FourTimes k k4 = (i : ℕ) → i < 256 → getD k4 i 0 ≡ getD k (i / 4) 0
 
 -- in each of the four lanes
 abbrev pub EachLane : (ℕ → Type 0) → Type 0

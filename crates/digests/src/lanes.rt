@@ -8,10 +8,23 @@ ghost use Rattle.sha256.specs.Constants.{K};
 ghost use Rattle.sha256.specs.Sha256.{padded, messageBlock, wordAt, words, H0, schedule, extended, oneRound, rounds};
 ghost use Rattle.sha256.specs.Sha256.{addStates, compress, digestBytes, sha256};
 ghost use Rattle.digests.specs.Lanes.{scheduleAt, blockAt, stateAt, laneAt, withWord, steps, roundsFrom};
-ghost use Rattle.digests.specs.Lanes.{paddingSchedule, paddingSums};
+ghost use Rattle.digests.specs.Lanes.{paddingSchedule, paddingSums, FourTimes};
 ghost use Rattle.digests.specs.Lanes.{EachLane, OtherSchedules, OtherStates};
 use crate::constants::PADDING_SUMS;
 use sha256::State;
+
+// The round constants, each four times: so the constants of a round, one to a lane, are one vector.
+pub fn four_times(k: &[u32; 64]) -> [u32; 256]
+    ensures { λ r. ⌜ FourTimes (now (k .entry)) r ⌝ }
+{
+    let mut r = [0u32; 256];
+    let mut i = 0;
+    while i < 256 {
+        r[i] = k[i / 4];
+        i += 1;
+    }
+    r
+}
 
 // The state of lane l.
 fn state_of(st: &[u32; 32], l: usize) -> State
@@ -47,8 +60,8 @@ fn put_state(st: &mut [u32; 32], l: usize, s: State)
 }
 
 // In lane l, the word t + 16 of the schedule and the round t.
-fn round_and_word(s: State, w: &mut [u32; 256], k: &[u32; 64], t: usize, l: usize) -> State
-    requires { ⌜ (t < 48) × (l < 4) × (length (now w) ≡ 256) × (now k ≡ K) ⌝ }
+fn round_and_word(s: State, w: &mut [u32; 256], k: &[u32; 256], t: usize, l: usize) -> State
+    requires { ⌜ (t < 48) × (l < 4) × (length (now w) ≡ 256) × (FourTimes K (now k)) ⌝ }
     ensures { λ _. ⌜ length (now (w .exit)) ≡ 256 ⌝ }
     ensures { λ _. ⌜ scheduleAt l (now (w .exit)) ≡ withWord t (scheduleAt l (now (w .entry))) ⌝ }
     ensures { λ _. ⌜ OtherSchedules l (now (w .entry)) (now (w .exit)) ⌝ }
@@ -57,12 +70,12 @@ fn round_and_word(s: State, w: &mut [u32; 256], k: &[u32; 64], t: usize, l: usiz
     let p = l + t * 4;
     let x = w[p];
     w[p + 64] = sha256::schedule_sum(x, w[p + 4], w[p + 36], w[p + 56]);
-    sha256::round(s, k[t], x)
+    sha256::round(s, k[p], x)
 }
 
 // In lane l, the words t + 16 to t + 19 and the rounds t to t + 3.
-fn lane_rounds_and_words(st: &mut [u32; 32], w: &mut [u32; 256], k: &[u32; 64], t: usize, l: usize)
-    requires { ⌜ (t + 4 ≤ 48) × (l < 4) × (length (now st) ≡ 32) × (length (now w) ≡ 256) × (now k ≡ K) ⌝ }
+fn lane_rounds_and_words(st: &mut [u32; 32], w: &mut [u32; 256], k: &[u32; 256], t: usize, l: usize)
+    requires { ⌜ (t + 4 ≤ 48) × (l < 4) × (length (now st) ≡ 32) × (length (now w) ≡ 256) × (FourTimes K (now k)) ⌝ }
     ensures { λ _. ⌜ (length (now (st .exit)) ≡ 32) × (length (now (w .exit)) ≡ 256) ⌝ }
     ensures { λ _. ⌜ laneAt l (now (w .exit)) (now (st .exit)) ≡ steps t 4 (laneAt l (now (w .entry)) (now (st .entry))) ⌝ }
     ensures { λ _. ⌜ OtherSchedules l (now (w .entry)) (now (w .exit)) × OtherStates l (now (st .entry)) (now (st .exit)) ⌝ }
@@ -76,8 +89,8 @@ fn lane_rounds_and_words(st: &mut [u32; 32], w: &mut [u32; 256], k: &[u32; 64], 
 }
 
 // In each lane, the words t + 16 to t + 19 and the rounds t to t + 3.
-fn lanes_rounds_and_words(st: &mut [u32; 32], w: &mut [u32; 256], k: &[u32; 64], t: usize)
-    requires { ⌜ (t + 4 ≤ 48) × (length (now st) ≡ 32) × (length (now w) ≡ 256) × (now k ≡ K) ⌝ }
+fn lanes_rounds_and_words(st: &mut [u32; 32], w: &mut [u32; 256], k: &[u32; 256], t: usize)
+    requires { ⌜ (t + 4 ≤ 48) × (length (now st) ≡ 32) × (length (now w) ≡ 256) × (FourTimes K (now k)) ⌝ }
     ensures { λ _. ⌜ (length (now (st .exit)) ≡ 32) × (length (now (w .exit)) ≡ 256) ⌝ }
     ensures { λ _. ⌜ EachLane (λ l. laneAt l (now (w .exit)) (now (st .exit)) ≡ steps t 4 (laneAt l (now (w .entry)) (now (st .entry)))) ⌝ }
 {
@@ -89,8 +102,8 @@ fn lanes_rounds_and_words(st: &mut [u32; 32], w: &mut [u32; 256], k: &[u32; 64],
 }
 
 // In each lane, the first 48 rounds, which leave the whole schedule in w.
-fn first_rounds(st: &mut [u32; 32], w: &mut [u32; 256], k: &[u32; 64])
-    requires { ⌜ (length (now st) ≡ 32) × (length (now w) ≡ 256) × (now k ≡ K) ⌝ }
+fn first_rounds(st: &mut [u32; 32], w: &mut [u32; 256], k: &[u32; 256])
+    requires { ⌜ (length (now st) ≡ 32) × (length (now w) ≡ 256) × (FourTimes K (now k)) ⌝ }
     ensures { λ _. ⌜ (length (now (st .exit)) ≡ 32) × (length (now (w .exit)) ≡ 256) ⌝ }
     ensures { λ _. ⌜ EachLane (λ l. scheduleAt l (now (w .exit)) ≡ extended 48 (blockAt l (now (w .entry)))) ⌝ }
     ensures { λ _. ⌜ EachLane (λ l. stateAt l (now (st .exit)) ≡ rounds 48 (scheduleAt l (now (w .exit))) (stateAt l (now (st .entry)))) ⌝ }
@@ -103,16 +116,17 @@ fn first_rounds(st: &mut [u32; 32], w: &mut [u32; 256], k: &[u32; 64])
 }
 
 // In lane l, the round t.
-fn round_at(s: State, w: &[u32; 256], k: &[u32; 64], t: usize, l: usize) -> State
-    requires { ⌜ (t < 64) × (l < 4) × (now k ≡ K) ⌝ }
+fn round_at(s: State, w: &[u32; 256], k: &[u32; 256], t: usize, l: usize) -> State
+    requires { ⌜ (t < 64) × (l < 4) × (FourTimes K (now k)) ⌝ }
     ensures { λ r. ⌜ r ≡ oneRound (getD K t 0) (getD (scheduleAt l (now (w .entry))) t 0) s ⌝ }
 {
-    sha256::round(s, k[t], w[l + t * 4])
+    let p = l + t * 4;
+    sha256::round(s, k[p], w[p])
 }
 
 // In lane l, the rounds t to t + 3.
-fn lane_rounds(st: &mut [u32; 32], w: &[u32; 256], k: &[u32; 64], t: usize, l: usize)
-    requires { ⌜ (t + 4 ≤ 64) × (l < 4) × (length (now st) ≡ 32) × (now k ≡ K) ⌝ }
+fn lane_rounds(st: &mut [u32; 32], w: &[u32; 256], k: &[u32; 256], t: usize, l: usize)
+    requires { ⌜ (t + 4 ≤ 64) × (l < 4) × (length (now st) ≡ 32) × (FourTimes K (now k)) ⌝ }
     ensures { λ _. ⌜ length (now (st .exit)) ≡ 32 ⌝ }
     ensures { λ _. ⌜ stateAt l (now (st .exit)) ≡ roundsFrom t 4 (scheduleAt l (now (w .entry))) (stateAt l (now (st .entry))) ⌝ }
     ensures { λ _. ⌜ OtherStates l (now (st .entry)) (now (st .exit)) ⌝ }
@@ -126,8 +140,8 @@ fn lane_rounds(st: &mut [u32; 32], w: &[u32; 256], k: &[u32; 64], t: usize, l: u
 }
 
 // In each lane, the rounds t to t + 3.
-fn lanes_rounds(st: &mut [u32; 32], w: &[u32; 256], k: &[u32; 64], t: usize)
-    requires { ⌜ (t + 4 ≤ 64) × (length (now st) ≡ 32) × (now k ≡ K) ⌝ }
+fn lanes_rounds(st: &mut [u32; 32], w: &[u32; 256], k: &[u32; 256], t: usize)
+    requires { ⌜ (t + 4 ≤ 64) × (length (now st) ≡ 32) × (FourTimes K (now k)) ⌝ }
     ensures { λ _. ⌜ length (now (st .exit)) ≡ 32 ⌝ }
     ensures { λ _. ⌜ EachLane (λ l. stateAt l (now (st .exit)) ≡ roundsFrom t 4 (scheduleAt l (now (w .entry))) (stateAt l (now (st .entry)))) ⌝ }
 {
@@ -139,8 +153,8 @@ fn lanes_rounds(st: &mut [u32; 32], w: &[u32; 256], k: &[u32; 64], t: usize)
 }
 
 // In each lane, the last 16 rounds.
-fn last_rounds(st: &mut [u32; 32], w: &[u32; 256], k: &[u32; 64])
-    requires { ⌜ (length (now st) ≡ 32) × (now k ≡ K) ⌝ }
+fn last_rounds(st: &mut [u32; 32], w: &[u32; 256], k: &[u32; 256])
+    requires { ⌜ (length (now st) ≡ 32) × (FourTimes K (now k)) ⌝ }
     ensures { λ _. ⌜ length (now (st .exit)) ≡ 32 ⌝ }
     ensures { λ _. ⌜ EachLane (λ l. stateAt l (now (st .exit)) ≡ roundsFrom 48 16 (scheduleAt l (now (w .entry))) (stateAt l (now (st .entry)))) ⌝ }
 {
@@ -152,8 +166,8 @@ fn last_rounds(st: &mut [u32; 32], w: &[u32; 256], k: &[u32; 64])
 }
 
 // In each lane, all rounds for the block whose 16 words stand at the front of its schedule.
-fn all_rounds(st: &mut [u32; 32], w: &mut [u32; 256], k: &[u32; 64])
-    requires { ⌜ (length (now st) ≡ 32) × (length (now w) ≡ 256) × (now k ≡ K) ⌝ }
+fn all_rounds(st: &mut [u32; 32], w: &mut [u32; 256], k: &[u32; 256])
+    requires { ⌜ (length (now st) ≡ 32) × (length (now w) ≡ 256) × (FourTimes K (now k)) ⌝ }
     ensures { λ _. ⌜ (length (now (st .exit)) ≡ 32) × (length (now (w .exit)) ≡ 256) ⌝ }
     ensures { λ _. ⌜ EachLane (λ l. stateAt l (now (st .exit)) ≡ rounds 64 (extended 48 (blockAt l (now (w .entry)))) (stateAt l (now (st .entry)))) ⌝ }
 {
@@ -263,8 +277,8 @@ fn load_events(events: &[u8], b: usize, w: &mut [u32; 256])
 }
 
 // In each lane, all rounds for the block b of its padded event. The fourth block is the padding, the same for all events.
-fn block_rounds(st: &mut [u32; 32], w: &mut [u32; 256], k: &[u32; 64], events: &[u8], b: usize)
-    requires { ⌜ (length (now st) ≡ 32) × (length (now w) ≡ 256) × (now k ≡ K) × (length (now events) ≡ 768) × (b < 4) ⌝ }
+fn block_rounds(st: &mut [u32; 32], w: &mut [u32; 256], k: &[u32; 256], events: &[u8], b: usize)
+    requires { ⌜ (length (now st) ≡ 32) × (length (now w) ≡ 256) × (FourTimes K (now k)) × (length (now events) ≡ 768) × (b < 4) ⌝ }
     ensures { λ _. ⌜ (length (now (st .exit)) ≡ 32) × (length (now (w .exit)) ≡ 256) ⌝ }
     ensures { λ _. ⌜ EachLane (λ l. stateAt l (now (st .exit)) ≡ rounds 64 (schedule (messageBlock (padded (part (now (events .entry)) (l * 192) 192) 1536) b)) (stateAt l (now (st .entry)))) ⌝ }
 {
@@ -277,8 +291,8 @@ fn block_rounds(st: &mut [u32; 32], w: &mut [u32; 256], k: &[u32; 64], events: &
 }
 
 // In each lane, 6.2.2 of FIPS 180-4 for the block b of its padded event.
-fn compress_lanes(st: &mut [u32; 32], w: &mut [u32; 256], k: &[u32; 64], events: &[u8], b: usize)
-    requires { ⌜ (length (now st) ≡ 32) × (length (now w) ≡ 256) × (now k ≡ K) × (length (now events) ≡ 768) × (b < 4) ⌝ }
+fn compress_lanes(st: &mut [u32; 32], w: &mut [u32; 256], k: &[u32; 256], events: &[u8], b: usize)
+    requires { ⌜ (length (now st) ≡ 32) × (length (now w) ≡ 256) × (FourTimes K (now k)) × (length (now events) ≡ 768) × (b < 4) ⌝ }
     ensures { λ _. ⌜ (length (now (st .exit)) ≡ 32) × (length (now (w .exit)) ≡ 256) ⌝ }
     ensures { λ _. ⌜ EachLane (λ l. stateAt l (now (st .exit)) ≡ compress (stateAt l (now (st .entry))) (messageBlock (padded (part (now (events .entry)) (l * 192) 192) 1536) b)) ⌝ }
 {
@@ -303,8 +317,8 @@ fn start(st: &mut [u32; 32])
 // The hash values of four events, one to a lane, with room for their schedules in w. The compression has one place where it is
 // called, and so has this function: so both are compiled into the caller's loop, where the arrays are local, and the compiler
 // knows that they do not overlap.
-pub fn four_states(events: &[u8], k: &[u32; 64], w: &mut [u32; 256]) -> [u32; 32]
-    requires { ⌜ (length (now events) ≡ 768) × (now k ≡ K) × (length (now w) ≡ 256) ⌝ }
+pub fn four_states(events: &[u8], k: &[u32; 256], w: &mut [u32; 256]) -> [u32; 32]
+    requires { ⌜ (length (now events) ≡ 768) × (FourTimes K (now k)) × (length (now w) ≡ 256) ⌝ }
     ensures { λ _. ⌜ length (now (w .exit)) ≡ 256 ⌝ }
     ensures { λ r. ⌜ EachLane (λ l. digestBytes (stateAt l r) ≡ sha256 (part (now (events .entry)) (l * 192) 192)) ⌝ }
 {

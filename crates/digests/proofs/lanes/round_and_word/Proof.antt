@@ -1,7 +1,8 @@
 use native.Mathlib.Omega.{arith}
 use lib.ListN.{length-set}
+use Rattle.sha256.specs.Constants.{K}
 use Rattle.digests.proofs.Columns.{getD-column}
-use Rattle.digests.proofs.Rounds.{schedule-stored, schedules-kept}
+use Rattle.digests.proofs.Rounds.{schedule-stored, schedules-kept, constant-at}
 use borrow.Author.Needs.{needs}
 use Rattle.digests.proofs.lanes.round_and_word.Statement.{statement}
 use Rattle.digests.proofs.lanes.round_and_word.Tie as tie
@@ -78,7 +79,7 @@ returns c =
         schedule-stored l t w (start .pre .0) v (start .pre .1) (start .pre .2) (c .before .before .schedule-sum .ensures),
         (
           schedules-kept l t w (start .pre .0) v (start .pre .1) (start .pre .2),
-          rw (getD-column l 64 t w (omega arith)) (rw (start .pre .3) at (c .round .ensures)),
+          rw (getD-column l 64 t w (omega arith)) (rw (constant-at K (start .args .k .now) l t (start .pre .1) (omega arith) (start .pre .3)) at (c .round .ensures)),
         ),
       ),
     )

@@ -1,8 +1,16 @@
 use native.Mathlib.Omega.{arith}
+use Rattle.sha256.specs.Constants.{K}
 use Rattle.digests.proofs.Columns.{getD-column}
+use Rattle.digests.proofs.Rounds.{constant-at}
 use borrow.Author.Needs.{needs}
 use Rattle.digests.proofs.lanes.round_at.Statement.{statement}
 use Rattle.digests.proofs.lanes.round_at.Tie as tie
+
+mul-p : tie.Need-mul-p
+mul-p c = search needs
+
+add-p : tie.Need-add-p
+add-p c = search needs
 
 mul-round : tie.Need-mul-round
 mul-round c = search needs
@@ -12,12 +20,6 @@ element-copy-out-round c = search needs
 
 mul-round-2 : tie.Need-mul-round-2
 mul-round-2 c = search needs
-
-add-round : tie.Need-add-round
-add-round c = search needs
-
-mul-round-3 : tie.Need-mul-round-3
-mul-round-3 c = search needs
 
 element-copy-out-round-2 : tie.Need-element-copy-out-round-2
 element-copy-out-round-2 c = search needs
@@ -29,17 +31,18 @@ returns : tie.Need-returns
 returns c =
     let start = c .before .before .before in
     let a = start .args in
-    rw (getD-column (a .l) 64 (a .t) (a .w .now) (omega arith)) (rw (start .pre .2) at (c .round .ensures))
+    let constant = constant-at K (a .k .now) (a .l) (a .t) (start .pre .1) (start .pre .0) (start .pre .2) in
+    rw (getD-column (a .l) 64 (a .t) (a .w .now) (omega arith)) (rw constant at (c .round .ensures))
 
 pub round-at-spec : {M : Type 1} → statement M
 round-at-spec =
     tie.close
     (tie.spec
+    mul-p
+    add-p
     mul-round
     element-copy-out-round
     mul-round-2
-    add-round
-    mul-round-3
     element-copy-out-round-2
     round-requires
     returns)
