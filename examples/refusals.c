@@ -115,6 +115,11 @@ static void id(const char *what, uint8_t want, const uint8_t *e, size_t e_len, u
     check(what, pelchunda_id(e, e_len, i, i_len) == want && kept());
 }
 
+static void ids(const char *what, uint8_t want, const uint8_t *e, size_t e_len, uint8_t *i, size_t i_len)
+{
+    check(what, pelchunda_ids(e, e_len, i, i_len) == want && kept());
+}
+
 /* ---- events and bundles ---- */
 
 /* The creator is 192 zero bytes: a create by member 0, of room 0. */
@@ -278,6 +283,11 @@ static void try_id(void)
     id("id: null id", 1, creator, EVENT, NULL, 0);
     id("id: short event", 1, creator, EVENT - 1, i, ID);
     id("id: short id", 1, creator, EVENT, i, ID - 1);
+    ids("ids: null events and null ids", 0, NULL, 0, NULL, 0);
+    ids("ids: null events", 1, NULL, 0, i, ID);
+    ids("ids: null ids", 1, creator, EVENT, NULL, 0);
+    ids("ids: short event", 1, creator, EVENT - 1, i, ID);
+    ids("ids: short id", 1, creator, EVENT, i, ID - 1);
     for (size_t k = 0; k < ID; k++) {
         check("id: as it was", i[k] == 0xa5);
     }
