@@ -99,6 +99,14 @@ fn lend(events: &[Ev]) -> Lent {
     Lent { events: events.to_vec(), bundle: bundle(events), store, asked }
 }
 
+/// The events with no zeros where the second and third parents stand: an event with one parent has a third block of zeros,
+/// which takes less time.
+fn filled(events: &[Ev]) -> Vec<Ev> {
+    let mut full = events.to_vec();
+    full.iter_mut().for_each(|e| e[128..].fill(0xa5));
+    full
+}
+
 fn time_id(event: &Ev) -> Pair {
     let mut out = [0u8; 32];
     pair(
@@ -279,8 +287,10 @@ pub fn run() -> bool {
     );
     let mut worst = [Worst { ratios: [0.0; 3], set: "-" }; BUDGETS.len()];
     let sets = shapes::timed();
-    say(&mut worst, "one id", "-", time_id(&sets[0].1[77]));
-    say(&mut worst, "256 ids", "-", time_ids(&sets[0].1));
+    for (set, events) in [("one parent", &sets[0].1), ("third block full", &filled(&sets[0].1))] {
+        say(&mut worst, "one id", set, time_id(&events[77]));
+        say(&mut worst, "256 ids", set, time_ids(events));
+    }
     for (set, events) in &sets {
         let l = lend(events);
         say(&mut worst, "take", set, time_take(&l, 255, &events[255], REPETITIONS, 1));
