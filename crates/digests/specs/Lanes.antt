@@ -1,11 +1,13 @@
 -- Four computations of SHA-256 side by side: of an array of words, the word j of lane l stands at l + j * 4.
+use mathlib.Core.Bool.{cond}
 use mathlib.Core.List.{List, [], _∷_, _++_}
 use mathlib.Core.Path.{_≡_}
 use Prim.Native.Nat.{ℕ, zero, suc, _+_, _*_, _/_, _<_}
-use lib.ListN.{getD, set, take}
+use lib.Dec.{eqb}
+use lib.ListN.{getD, set, take, replicate}
 use Rattle.sha256.specs.Constants.{K}
 use Rattle.sha256.specs.Words.{_⊞_}
-use Rattle.sha256.specs.Sha256.{padded, schedule, nextWord, oneRound}
+use Rattle.sha256.specs.Sha256.{padded, nextWord, oneRound}
 use Rattle.sha256.specs.declared.State.{State}
 
 -- the first n words of lane l
@@ -62,17 +64,18 @@ unfoldable pub roundsFrom : ℕ → ℕ → List ℕ → State → State
 roundsFrom t zero w s = s
 roundsFrom t (suc n) w s = oneRound (getD K (t + n) 0) (getD w (t + n) 0) (roundsFrom t n w s)
 
--- the schedule of the padding's block, which is the same for all events
-abbrev pub paddingSchedule : List ℕ
-paddingSchedule = schedule (padded [] 1536)
-
--- the first n sums of a round constant and a word of w, and those of the padding
+-- the first n sums of a round constant and a word of w
 unfoldable pub sums : ℕ → List ℕ → List ℕ
 sums zero w = []
 sums (suc n) w = sums n w ++ ((getD K n 0 ⊞ getD w n 0) ∷ [])
 
-abbrev pub paddingSums : List ℕ
-paddingSums = sums 64 paddingSchedule
+-- for each schedule whose sums are q
+abbrev pub EachSchedule : List ℕ → (List ℕ → Type 0) → Type 0
+EachSchedule q P = (w : List ℕ) → q ≡ sums 64 w → P w
+
+-- a block that is the same in each lane: the fourth is the padding, any other zeros
+abbrev pub constantBlock : ℕ → List ℕ
+constantBlock b = cond (eqb b 3) (padded [] 1536) (replicate 64 0)
 
 -- the 64 words of k, each four times, in k4
 unfoldable pub FourTimes : List ℕ → List ℕ → Type 0

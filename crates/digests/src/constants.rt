@@ -1,6 +1,6 @@
 // The rounds of the padding's block add to each round constant of SHA-256 a word that is the same for all events.
 
-// The sums of these, modulo 2^32: paddingSums of specs/Lanes.antt.
+// The sums of these, modulo 2^32: `sums` of specs/Lanes.antt.
 pub const PADDING_SUMS: [u32; 64] = [
     0xc28a_2f98,
     0x7137_4491,

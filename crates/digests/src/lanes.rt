@@ -1,6 +1,7 @@
 // SHA-256 of four events side by side. The word j of lane l stands at l + j * 4 of an array, and the innermost loop is over
 // the lanes, four rounds in its body: the compiler makes vector instructions of it.
 ghost use mathlib.Core.Path.{_≡_};
+ghost use mathlib.Core.Bool.{true, false};
 ghost use Prim.Native.Nat.{_+_, _*_, _<_, _≤_};
 ghost use lib.ListN.{length, getD, set};
 ghost use Rattle.octets.specs.Octets.{part};
@@ -8,10 +9,11 @@ ghost use Rattle.sha256.specs.Constants.{K};
 ghost use Rattle.sha256.specs.Sha256.{padded, messageBlock, wordAt, words, H0, schedule, extended, oneRound, rounds};
 ghost use Rattle.sha256.specs.Sha256.{addStates, compress, digestBytes, sha256};
 ghost use Rattle.digests.specs.Lanes.{scheduleAt, blockAt, stateAt, laneAt, withWord, steps, roundsFrom};
-ghost use Rattle.digests.specs.Lanes.{paddingSchedule, paddingSums, FourTimes};
+ghost use Rattle.digests.specs.Lanes.{constantBlock, sums, EachSchedule, FourTimes};
 ghost use Rattle.digests.specs.Lanes.{EachLane, OtherSchedules, OtherStates};
 use crate::constants::PADDING_SUMS;
 use sha256::State;
+use sha256::constants::ROUND_CONSTANTS;
 
 // The round constants, each four times: so the constants of a round, one to a lane, are one vector.
 pub fn four_times(k: &[u32; 64]) -> [u32; 256]
@@ -175,51 +177,51 @@ fn all_rounds(st: &mut [u32; 32], w: &mut [u32; 256], k: &[u32; 256])
     last_rounds(st, w, k);
 }
 
-// The round t of the padding's block, with the sum of its constant and its word.
-fn padding_round(s: State, q: &[u32; 64], t: usize) -> State
-    requires { ⌜ (t < 64) × (now q ≡ paddingSums) ⌝ }
-    ensures { λ r. ⌜ r ≡ oneRound (getD K t 0) (getD paddingSchedule t 0) s ⌝ }
+// The round t by the sum of its constant and its word, from a table of these sums.
+fn summed_round(s: State, q: &[u32; 64], t: usize) -> State
+    requires { ⌜ t < 64 ⌝ }
+    ensures { λ r. ⌜ EachSchedule (now (q .entry)) (λ w. r ≡ oneRound (getD K t 0) (getD w t 0) s) ⌝ }
 {
     sha256::round(s, q[t], 0)
 }
 
-// In lane l, the rounds t to t + 3 of the padding's block.
-fn lane_padding_rounds(st: &mut [u32; 32], q: &[u32; 64], t: usize, l: usize)
-    requires { ⌜ (t + 4 ≤ 64) × (l < 4) × (length (now st) ≡ 32) × (now q ≡ paddingSums) ⌝ }
+// In lane l, the rounds t to t + 3 by their sums.
+fn lane_summed_rounds(st: &mut [u32; 32], q: &[u32; 64], t: usize, l: usize)
+    requires { ⌜ (t + 4 ≤ 64) × (l < 4) × (length (now st) ≡ 32) ⌝ }
     ensures { λ _. ⌜ length (now (st .exit)) ≡ 32 ⌝ }
-    ensures { λ _. ⌜ stateAt l (now (st .exit)) ≡ roundsFrom t 4 paddingSchedule (stateAt l (now (st .entry))) ⌝ }
+    ensures { λ _. ⌜ EachSchedule (now (q .entry)) (λ w. stateAt l (now (st .exit)) ≡ roundsFrom t 4 w (stateAt l (now (st .entry)))) ⌝ }
     ensures { λ _. ⌜ OtherStates l (now (st .entry)) (now (st .exit)) ⌝ }
 {
     let s = state_of(st, l);
-    let q1 = padding_round(s, q, t);
-    let q2 = padding_round(q1, q, t + 1);
-    let q3 = padding_round(q2, q, t + 2);
-    let q4 = padding_round(q3, q, t + 3);
+    let q1 = summed_round(s, q, t);
+    let q2 = summed_round(q1, q, t + 1);
+    let q3 = summed_round(q2, q, t + 2);
+    let q4 = summed_round(q3, q, t + 3);
     put_state(st, l, q4);
 }
 
-// In each lane, the rounds t to t + 3 of the padding's block.
-fn lanes_padding_rounds(st: &mut [u32; 32], q: &[u32; 64], t: usize)
-    requires { ⌜ (t + 4 ≤ 64) × (length (now st) ≡ 32) × (now q ≡ paddingSums) ⌝ }
+// In each lane, the rounds t to t + 3 by their sums.
+fn lanes_summed_rounds(st: &mut [u32; 32], q: &[u32; 64], t: usize)
+    requires { ⌜ (t + 4 ≤ 64) × (length (now st) ≡ 32) ⌝ }
     ensures { λ _. ⌜ length (now (st .exit)) ≡ 32 ⌝ }
-    ensures { λ _. ⌜ EachLane (λ l. stateAt l (now (st .exit)) ≡ roundsFrom t 4 paddingSchedule (stateAt l (now (st .entry)))) ⌝ }
+    ensures { λ _. ⌜ EachSchedule (now (q .entry)) (λ w. EachLane (λ l. stateAt l (now (st .exit)) ≡ roundsFrom t 4 w (stateAt l (now (st .entry))))) ⌝ }
 {
     let mut l = 0;
     while l < 4 {
-        lane_padding_rounds(st, q, t, l);
+        lane_summed_rounds(st, q, t, l);
         l += 1;
     }
 }
 
-// In each lane, all rounds of the padding's block.
-fn padding_rounds(st: &mut [u32; 32], q: &[u32; 64])
-    requires { ⌜ (length (now st) ≡ 32) × (now q ≡ paddingSums) ⌝ }
+// In each lane, all rounds by their sums.
+fn summed_rounds(st: &mut [u32; 32], q: &[u32; 64])
+    requires { ⌜ length (now st) ≡ 32 ⌝ }
     ensures { λ _. ⌜ length (now (st .exit)) ≡ 32 ⌝ }
-    ensures { λ _. ⌜ EachLane (λ l. stateAt l (now (st .exit)) ≡ rounds 64 paddingSchedule (stateAt l (now (st .entry)))) ⌝ }
+    ensures { λ _. ⌜ EachSchedule (now (q .entry)) (λ w. EachLane (λ l. stateAt l (now (st .exit)) ≡ rounds 64 w (stateAt l (now (st .entry))))) ⌝ }
 {
     let mut t = 0;
     while t < 64 {
-        lanes_padding_rounds(st, q, t);
+        lanes_summed_rounds(st, q, t);
         t += 4;
     }
 }
@@ -276,17 +278,50 @@ fn load_events(events: &[u8], b: usize, w: &mut [u32; 256])
     }
 }
 
-// In each lane, all rounds for the block b of its padded event. The fourth block is the padding, the same for all events.
+// Whether the block b is one and the same in each lane, known before it is read: the padding, or zeros. The third block of an
+// event with one parent is zeros.
+fn is_constant(events: &[u8], b: usize) -> bool
+    requires { ⌜ (length (now events) ≡ 768) × (b < 4) ⌝ }
+    ensures { λ r. ⌜ (r ≡ true → EachLane (λ l. messageBlock (padded (part (now (events .entry)) (l * 192) 192) 1536) b ≡ constantBlock b)) ⌝ }
+    ensures { λ r. ⌜ (r ≡ false → b < 3) ⌝ }
+{
+    if b == 3 {
+        return true;
+    }
+    let mut l = 0;
+    while l < 4 {
+        let at = l * 192 + b * 64;
+        if !octets::all_zero(&events[at..at + 64]) {
+            return false;
+        }
+        l += 1;
+    }
+    true
+}
+
+// The sums of the round constants and the words of such a block's schedule. The schedule of zeros is zeros.
+fn constant_sums(b: usize) -> [u32; 64]
+    ensures { λ r. ⌜ r ≡ sums 64 (schedule (constantBlock b)) ⌝ }
+{
+    if b == 3 {
+        PADDING_SUMS
+    } else {
+        ROUND_CONSTANTS
+    }
+}
+
+// In each lane, all rounds for the block b of its padded event. A constant block needs no schedule.
 fn block_rounds(st: &mut [u32; 32], w: &mut [u32; 256], k: &[u32; 256], events: &[u8], b: usize)
     requires { ⌜ (length (now st) ≡ 32) × (length (now w) ≡ 256) × (FourTimes K (now k)) × (length (now events) ≡ 768) × (b < 4) ⌝ }
     ensures { λ _. ⌜ (length (now (st .exit)) ≡ 32) × (length (now (w .exit)) ≡ 256) ⌝ }
     ensures { λ _. ⌜ EachLane (λ l. stateAt l (now (st .exit)) ≡ rounds 64 (schedule (messageBlock (padded (part (now (events .entry)) (l * 192) 192) 1536) b)) (stateAt l (now (st .entry)))) ⌝ }
 {
-    if b < 3 {
+    if is_constant(events, b) {
+        let q = constant_sums(b);
+        summed_rounds(st, &q);
+    } else {
         load_events(events, b, w);
         all_rounds(st, w, k);
-    } else {
-        padding_rounds(st, &PADDING_SUMS);
     }
 }
 
