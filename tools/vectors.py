@@ -11,7 +11,8 @@ EXAMPLES = [
 TEXT = bytes((i * 7 + 3) % 256 for i in range(258))
 LENGTHS = [range(0, 4), range(54, 67), range(118, 131), range(190, 195), range(255, 259)]
 EVENTS = [191, 192, 193]
-TABLE = bytes((i * 7 + i // 192 * 11 + 3) % 256 for i in range(9 * 192))
+FULL = bytes((i * 7 + i // 192 * 11 + 3) % 256 for i in range(9 * 192))
+SHORT = bytes(FULL[i] if i % 192 < 128 or i // 192 == 4 else 0 for i in range(9 * 192))
 
 
 def line(message):
@@ -34,5 +35,6 @@ def table(events, n):
 
 
 for n in range(10):
-    table(TABLE, n)
-table(TABLE[:1060], 9)
+    table(FULL, n)
+table(FULL[:1060], 9)
+table(SHORT, 9)

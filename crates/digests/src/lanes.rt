@@ -177,7 +177,7 @@ fn all_rounds(st: &mut [u32; 32], w: &mut [u32; 256], k: &[u32; 256])
     last_rounds(st, w, k);
 }
 
-// The round t by the sum of its constant and its word, from a table of these sums.
+// The round t by the sum of its constant and its word, from a table of such sums: no schedule is worked out.
 fn summed_round(s: State, q: &[u32; 64], t: usize) -> State
     requires { ⌜ t < 64 ⌝ }
     ensures { λ r. ⌜ EachSchedule (now (q .entry)) (λ w. r ≡ oneRound (getD K t 0) (getD w t 0) s) ⌝ }
@@ -278,8 +278,8 @@ fn load_events(events: &[u8], b: usize, w: &mut [u32; 256])
     }
 }
 
-// Whether the block b is one and the same in each lane, known before it is read: the padding, or zeros. The third block of an
-// event with one parent is zeros.
+// Whether the block b is the padding, or zeros in each lane, as the third block of an event with at most one parent is: its
+// schedule is then known beforehand.
 fn is_constant(events: &[u8], b: usize) -> bool
     requires { ⌜ (length (now events) ≡ 768) × (b < 4) ⌝ }
     ensures { λ r. ⌜ (r ≡ true → EachLane (λ l. messageBlock (padded (part (now (events .entry)) (l * 192) 192) 1536) b ≡ constantBlock b)) ⌝ }
@@ -299,7 +299,8 @@ fn is_constant(events: &[u8], b: usize) -> bool
     true
 }
 
-// The sums of the round constants and the words of such a block's schedule. The schedule of zeros is zeros.
+// The sums for such a block. The schedule of zeros is zeros. Both tables come from here, so that the rounds by their sums have
+// one place where they are called, and are compiled into it.
 fn constant_sums(b: usize) -> [u32; 64]
     ensures { λ r. ⌜ r ≡ sums 64 (schedule (constantBlock b)) ⌝ }
 {
@@ -310,7 +311,7 @@ fn constant_sums(b: usize) -> [u32; 64]
     }
 }
 
-// In each lane, all rounds for the block b of its padded event. A constant block needs no schedule.
+// In each lane, all rounds for the block b of its padded event.
 fn block_rounds(st: &mut [u32; 32], w: &mut [u32; 256], k: &[u32; 256], events: &[u8], b: usize)
     requires { ⌜ (length (now st) ≡ 32) × (length (now w) ≡ 256) × (FourTimes K (now k)) × (length (now events) ≡ 768) × (b < 4) ⌝ }
     ensures { λ _. ⌜ (length (now (st .exit)) ≡ 32) × (length (now (w .exit)) ≡ 256) ⌝ }

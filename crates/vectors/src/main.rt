@@ -1,6 +1,6 @@
 // Writes SHA-256 digests, a line for each message: its length, or the number of events in its table, and the digest in
 // hexadecimal. tools/vectors.py makes the expected lines by another implementation.
-ghost use Prim.Native.Nat.{_≤_};
+ghost use Prim.Native.Nat.{_<_, _≤_};
 ghost use lib.ListN.{length};
 use libc::STDOUT_FILENO;
 
@@ -15,9 +15,11 @@ fn main() {
     event(&text[0..191]);
     event(&text[0..192]);
     event(&text[0..193]);
-    let events = events();
-    tables(&events, 9);
-    table(&events[0..1060], 9);
+    let full = events(192);
+    tables(&full, 9);
+    table(&full[0..1060], 9);
+    let short = events(128);
+    table(&short, 9);
 }
 
 // The examples that NIST gives with FIPS 180-4.
@@ -63,15 +65,25 @@ fn event(message: &[u8]) {
     show(message.len(), &id);
 }
 
-// Nine events, no two the same.
-fn events() -> [u8; 1728] {
+// Nine events, no two the same. From the byte n on each is zeros, but the fifth.
+fn events(n: usize) -> [u8; 1728] {
     let mut bytes = [0u8; 1728];
     let mut i = 0;
     while i < 1728 {
-        bytes[i] = ((i * 7 + i / 192 * 11 + 3) % 256) as u8;
+        bytes[i] = event_byte(i, n);
         i += 1;
     }
     bytes
+}
+
+fn event_byte(i: usize, n: usize) -> u8
+    requires { ⌜ i < 1728 ⌝ }
+{
+    if (i % 192 < n) | (i / 192 == 4) {
+        ((i * 7 + i / 192 * 11 + 3) % 256) as u8
+    } else {
+        0
+    }
 }
 
 // The tables of the ids of the first n events, for each n from 0 to last.

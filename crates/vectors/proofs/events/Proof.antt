@@ -8,29 +8,17 @@ use Rattle.vectors.proofs.events.Statement.{statement}
 use Rattle.vectors.proofs.events.Tie as tie
 
 abbrev Inv-loop : tie.InvT-loop
-Inv-loop bytes₀ i₀ bytes i =
+Inv-loop n bytes₀ i₀ bytes i =
     (i ≤ 1728) × (length bytes ≡ 1728)
 
 abbrev μ-loop : tie.MeasureT-loop
-μ-loop bytes₀ i₀ bytes i = 1728 - i
+μ-loop n bytes₀ i₀ bytes i = 1728 - i
 
 loop-holds : tie.Need-loop-holds Inv-loop μ-loop
 loop-holds c = search needs
 
-mul-bytes : tie.Need-mul-bytes Inv-loop μ-loop
-mul-bytes c = search needs
-
-mul-bytes-2 : tie.Need-mul-bytes-2 Inv-loop μ-loop
-mul-bytes-2 c = search needs
-
-add-bytes : tie.Need-add-bytes Inv-loop μ-loop
-add-bytes c = search needs
-
-add-bytes-2 : tie.Need-add-bytes-2 Inv-loop μ-loop
-add-bytes-2 c = search needs
-
-cast-bytes : tie.Need-cast-bytes Inv-loop μ-loop
-cast-bytes c = search needs
+event-byte-requires : tie.Need-event-byte-requires Inv-loop μ-loop
+event-byte-requires c κs = search needs
 
 array-write-bytes : tie.Need-array-write-bytes Inv-loop μ-loop
 array-write-bytes c = search needs
@@ -54,11 +42,7 @@ events-spec =
     Inv-loop
     μ-loop
     loop-holds
-    mul-bytes
-    mul-bytes-2
-    add-bytes
-    add-bytes-2
-    cast-bytes
+    event-byte-requires
     array-write-bytes
     add-i
     loop-less
