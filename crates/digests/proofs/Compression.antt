@@ -9,7 +9,8 @@ use Rattle.octets.specs.Octets.{part}
 use Rattle.sha256.specs.Constants.{K}
 use Rattle.sha256.specs.Sha256.{wordAt, words, extended, oneRound, rounds}
 use Rattle.sha256.specs.declared.State.{State}
-use Rattle.sha256.proofs.Rounds.{words-turn, Midway, midway-turn, midway-end}
+use Rattle.sha256.proofs.Rounds.{words-turn}
+use Rattle.digests.proofs.Midway.{Midway, midway-turn, midway-end}
 use Rattle.digests.specs.Lanes.{scheduleAt, blockAt, stateAt, Lane, laneAt, oneStep, steps, roundsFrom}
 use Rattle.digests.proofs.Columns.{length-column, column-own}
 

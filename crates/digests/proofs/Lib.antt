@@ -2,5 +2,6 @@ pub mod Laws
 pub mod Columns
 pub mod Rounds
 pub mod Sweep
+pub mod Midway
 pub mod Compression
 pub mod Events

@@ -13,7 +13,7 @@ use Rattle.sha256.specs.Words.{_⊞_, Ch, Σ1, σ0, σ1}
 use Rattle.sha256.specs.Constants.{K}
 use Rattle.sha256.specs.Sha256.{nextWord, oneRound}
 use Rattle.sha256.specs.declared.State.{State}
-use Rattle.digests.specs.Lanes.{scheduleAt, Lane, withWord, oneStep, steps, roundsFrom, sums, FourTimes, OtherSchedules}
+use Rattle.digests.specs.Lanes.{scheduleAt, Lane, withWord, oneStep, steps, roundsFrom, FourTimes, OtherSchedules}
 use Rattle.digests.proofs.Columns.{getD-column, column-own, column-other}
 
 module _ (l t : ℕ) (w : List ℕ) (h : t < 48) where
@@ -62,36 +62,6 @@ pub four-rounds : (t : ℕ) (w : List ℕ) (s : State) {s₀ s₁ s₂ s₃ s₄
     → z ≡ s₄ → z ≡ roundsFrom t 4 w s
 unfolding roundsFrom
 four-rounds t w s e₀ e₁ e₂ e₃ e₄ e₅ = rw add-zero cc
-
--- the sums of a schedule, and the one of the round t
-length-sums : (n : ℕ) (w : List ℕ) → length (sums n w) ≡ n
-unfolding sums
-length-sums zero w = refl
-length-sums (suc n) w = length-append (sums n w) _ ∙ simp (length-sums n w) (omega arith)
-
-getD-sums : (n t : ℕ) (w : List ℕ) → t < n → getD (sums n w) t 0 ≡ getD K t 0 ⊞ getD w t 0
-unfolding sums
-getD-sums zero t w h = let z : ⊥ = omega arith in absurd z
-getD-sums (suc n) t w h =
-    byBool (ltb t n)
-    (λ e. let b : t < n = ltb-true t n e in
-    List·getD-append (sums n w) _ 0 t (omega (arith, length-sums n w)) ∙ getD-sums n t w b)
-    (λ e. let b : t ≡ n = omega (arith, ltb-false t n e) in
-    rw b (getD-at (sums n w) (getD K n 0 ⊞ getD w n 0) [] 0 n (length-sums n w)))
-
--- a round with the sum of its constant and its word in place of the constant, and zero for the word
-added : (x k w : ℕ) → x ⊞ (k ⊞ w) ⊞ 0 ≡ x ⊞ k ⊞ w
-added x k w = omega arith
-
-round-sum : (k w : ℕ) (s : State) → oneRound (k ⊞ w) 0 s ≡ oneRound k w s
-unfolding oneRound
-round-sum k w s = rw (added (s .h ⊞ Σ1 (s .e) ⊞ Ch (s .e) (s .f) (s .g)) k w)
-
--- the round t, from the table q of sums
-pub sum-round : (w q : List ℕ) (t : ℕ) (s : State) {r : State} → t < 64 → q ≡ sums 64 w → r ≡ oneRound (getD q t 0) 0 s
-    → r ≡ oneRound (getD K t 0) (getD w t 0) s
-sum-round w q t s h e f =
-    f ∙ ap (λ (x : ℕ). oneRound x 0 s) (rw e (getD-sums 64 t w h)) ∙ round-sum (getD K t 0) (getD w t 0) s
 
 -- the constant of the round t in lane l, of a table that has each four times
 pub constant-at : (k k4 : List ℕ) (l t : ℕ) → l < 4 → t < 64 → FourTimes k k4 → getD k4 (l + t * 4) 0 ≡ getD k t 0

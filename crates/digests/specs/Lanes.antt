@@ -6,7 +6,6 @@ use Prim.Native.Nat.{ℕ, zero, suc, _+_, _*_, _/_, _<_}
 use lib.Dec.{eqb}
 use lib.ListN.{getD, set, take, replicate}
 use Rattle.sha256.specs.Constants.{K}
-use Rattle.sha256.specs.Words.{_⊞_}
 use Rattle.sha256.specs.Sha256.{padded, nextWord, oneRound}
 use Rattle.sha256.specs.declared.State.{State}
 
@@ -63,15 +62,6 @@ steps t (suc n) x = oneStep (t + n) (steps t n x)
 unfoldable pub roundsFrom : ℕ → ℕ → List ℕ → State → State
 roundsFrom t zero w s = s
 roundsFrom t (suc n) w s = oneRound (getD K (t + n) 0) (getD w (t + n) 0) (roundsFrom t n w s)
-
--- the first n sums of a round constant and a word of w
-unfoldable pub sums : ℕ → List ℕ → List ℕ
-sums zero w = []
-sums (suc n) w = sums n w ++ ((getD K n 0 ⊞ getD w n 0) ∷ [])
-
--- for each schedule whose sums are q
-abbrev pub EachSchedule : List ℕ → (List ℕ → Type 0) → Type 0
-EachSchedule q P = (w : List ℕ) → q ≡ sums 64 w → P w
 
 -- a block that is the same in each lane: the fourth is the padding, any other zeros
 abbrev pub constantBlock : ℕ → List ℕ

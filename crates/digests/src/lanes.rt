@@ -8,11 +8,12 @@ ghost use Rattle.octets.specs.Octets.{part};
 ghost use Rattle.sha256.specs.Constants.{K};
 ghost use Rattle.sha256.specs.Sha256.{padded, messageBlock, wordAt, words, H0, schedule, extended, oneRound, rounds};
 ghost use Rattle.sha256.specs.Sha256.{addStates, compress, digestBytes, sha256};
+ghost use Rattle.sha256.specs.Sums.{sums, EachSchedule};
 ghost use Rattle.digests.specs.Lanes.{scheduleAt, blockAt, stateAt, laneAt, withWord, steps, roundsFrom};
-ghost use Rattle.digests.specs.Lanes.{constantBlock, sums, EachSchedule, FourTimes};
+ghost use Rattle.digests.specs.Lanes.{constantBlock, FourTimes};
 ghost use Rattle.digests.specs.Lanes.{EachLane, OtherSchedules, OtherStates};
-use crate::constants::PADDING_SUMS;
 use sha256::State;
+use sha256::constants::PADDING_SUMS;
 use sha256::constants::ROUND_CONSTANTS;
 
 // The round constants, each four times: so the constants of a round, one to a lane, are one vector.
@@ -177,14 +178,6 @@ fn all_rounds(st: &mut [u32; 32], w: &mut [u32; 256], k: &[u32; 256])
     last_rounds(st, w, k);
 }
 
-// The round t by the sum of its constant and its word, from a table of such sums: no schedule is worked out.
-fn summed_round(s: State, q: &[u32; 64], t: usize) -> State
-    requires { ⌜ t < 64 ⌝ }
-    ensures { λ r. ⌜ EachSchedule (now (q .entry)) (λ w. r ≡ oneRound (getD K t 0) (getD w t 0) s) ⌝ }
-{
-    sha256::round(s, q[t], 0)
-}
-
 // In lane l, the rounds t to t + 3 by their sums.
 fn lane_summed_rounds(st: &mut [u32; 32], q: &[u32; 64], t: usize, l: usize)
     requires { ⌜ (t + 4 ≤ 64) × (l < 4) × (length (now st) ≡ 32) ⌝ }
@@ -193,10 +186,10 @@ fn lane_summed_rounds(st: &mut [u32; 32], q: &[u32; 64], t: usize, l: usize)
     ensures { λ _. ⌜ OtherStates l (now (st .entry)) (now (st .exit)) ⌝ }
 {
     let s = state_of(st, l);
-    let q1 = summed_round(s, q, t);
-    let q2 = summed_round(q1, q, t + 1);
-    let q3 = summed_round(q2, q, t + 2);
-    let q4 = summed_round(q3, q, t + 3);
+    let q1 = sha256::summed_round(s, q, t);
+    let q2 = sha256::summed_round(q1, q, t + 1);
+    let q3 = sha256::summed_round(q2, q, t + 2);
+    let q4 = sha256::summed_round(q3, q, t + 3);
     put_state(st, l, q4);
 }
 

@@ -1,18 +1,21 @@
 // SHA-256 of byte strings, as FIPS 180-4 defines it.
 //
-// It rests on std's wrapping sums and on bytes::copy. Both public functions promise, for every slice, the 32 bytes that
+// It rests on std's wrapping sums, on bytes::copy and on octets::all_zero. Both public functions promise, for every slice, the 32 bytes that
 // `sha256` of specs/Sha256.antt gives: FIPS 180-4's own digest for each message of fewer than 2^64 bits.
 pub mod constants;
 
 ghost use mathlib.Core.Path.{_≡_};
-ghost use mathlib.Core.List.{_++_};
-ghost use Prim.Native.Nat.{_+_, _*_, _/_, _%_, _^_, _<_, _≤_};
-ghost use lib.ListN.{length, getD, take, set};
+ghost use mathlib.Core.List.{List, _++_};
+ghost use Prim.Native.Nat.{ℕ, _+_, _*_, _/_, _%_, _^_, _<_, _≤_};
+ghost use lib.ListN.{length, getD, take};
 ghost use Rattle.sha256.specs.Words.{_⊞_, Ch, Maj, Σ0, Σ1, σ0, σ1};
 ghost use Rattle.sha256.specs.Constants.{K};
-ghost use Rattle.sha256.specs.Sha256.{wordBytes, padded, wordAt, words, H0, nextWord, extended, oneRound, rounds};
+ghost use Rattle.sha256.specs.Sha256.{wordBytes, padded, wordAt, words, H0, extended, oneRound, rounds};
 ghost use Rattle.sha256.specs.Sha256.{addStates, compress, hashBlocks, hashAll, digestBytes, sha256};
-use constants::EVENT_SCHEDULE;
+ghost use Rattle.sha256.specs.Sums.{EachSchedule};
+ghost use Rattle.sha256.specs.Rolling.{Grown, Rolling};
+ghost use Rattle.sha256.specs.declared.State.{State};
+use constants::PADDING_SUMS;
 use constants::ROUND_CONSTANTS;
 use std::num::wrapping_add_u32;
 
@@ -39,7 +42,7 @@ pub fn digest(message: &[u8]) -> [u8; 32]
     to_bytes(hash_rest(s, &message[at..], (n as u64) << 3))
 }
 
-// SHA-256 too, of an event. For its 192 bytes the padding is one constant block, whose schedule is a constant too.
+// SHA-256 too, of an event. For its 192 bytes the padding is one constant block.
 pub fn event_id(event: &[u8]) -> [u8; 32]
     ensures { λ r. ⌜ r ≡ sha256 (now (event .entry)) ⌝ }
 {
@@ -57,8 +60,19 @@ fn hash_event(event: &[u8], k: &[u32; 64]) -> State
 {
     let s1 = compress_by(initial(), &event[0..64], k);
     let s2 = compress_by(s1, &event[64..128], k);
-    let s3 = compress_by(s2, &event[128..192], k);
-    add_states(s3, last_rounds(s3, &EVENT_SCHEDULE, k, 0))
+    let s3 = compress_third(s2, &event[128..192], k);
+    add_states(s3, summed_rounds(s3, &PADDING_SUMS))
+}
+
+// 6.2.2, for the third block of an event: where it has at most one parent, the block is zeros, and so is its schedule.
+fn compress_third(s: State, block: &[u8], k: &[u32; 64]) -> State
+    requires { ⌜ (length (now block) ≡ 64) × (now k ≡ K) ⌝ }
+    ensures { λ r. ⌜ r ≡ compress s (now (block .entry)) ⌝ }
+{
+    if octets::all_zero(block) {
+        return add_states(s, summed_rounds(s, k));
+    }
+    compress_by(s, block, k)
 }
 
 // The hash value of the message's whole blocks.
@@ -121,93 +135,130 @@ fn compress(s: State, block: &[u8]) -> State
     compress_by(s, block, &ROUND_CONSTANTS)
 }
 
-// The same with lent constants.
+// The same with lent constants. Of the schedule, 16 words are at hand at a time, the word n at n % 16: so each stands at a place
+// that is fixed in the code, where it is read soon after it was written.
 fn compress_by(s: State, block: &[u8], k: &[u32; 64]) -> State
     requires { ⌜ (length (now block) ≡ 64) × (now k ≡ K) ⌝ }
     ensures { λ r. ⌜ r ≡ compress s (now (block .entry)) ⌝ }
 {
-    let mut w = [0u32; 64];
+    let mut w = [0u32; 16];
     load_words(block, &mut w);
-    add_states(s, all_rounds(s, &mut w, k))
+    let r = first_rounds(s, &mut w, k);
+    add_states(s, last_rounds(r, &w, k))
 }
 
-// All rounds, with the block's 16 words at the front of w.
-fn all_rounds(s: State, w: &mut [u32; 64], k: &[u32; 64]) -> State
-    requires { ⌜ (length (now w) ≡ 64) × (now k ≡ K) ⌝ }
-    ensures { λ r. ⌜ r ≡ rounds 64 (extended 48 (take 16 (now (w .entry)))) s ⌝ }
-{
-    let s48 = first_rounds(s, w, k);
-    last_rounds(s48, w, k, 48)
-}
-
-// The rounds from t0 on, with a whole schedule at hand: where s0 is what t0 rounds make of z, the result is what all make of it.
-fn last_rounds(s0: State, w: &[u32; 64], k: &[u32; 64], t0: usize) -> State
-    requires { ⌜ (t0 ≤ 64) × (t0 % 8 ≡ 0) × (now k ≡ K) ⌝ }
-    ensures { λ r. ⌜ ((z : State) → s0 ≡ rounds t0 (now (w .entry)) z → r ≡ rounds 64 (now (w .entry)) z) ⌝ }
-{
-    let mut s = s0;
-    let mut t = t0;
-    while t < 64 {
-        s = eight_rounds(s, w, k, t);
-        t += 8;
-    }
-    s
-}
-
-// The first 48 rounds, which leave the whole schedule in w. To make it beside the rounds is faster than before them.
-fn first_rounds(s0: State, w: &mut [u32; 64], k: &[u32; 64]) -> State
-    requires { ⌜ (length (now w) ≡ 64) × (now k ≡ K) ⌝ }
-    ensures { λ _. ⌜ now (w .exit) ≡ extended 48 (take 16 (now (w .entry))) ⌝ }
-    ensures { λ r. ⌜ r ≡ rounds 48 (now (w .exit)) s0 ⌝ }
+// The first 48 rounds, from the block's 16 words in w.
+fn first_rounds(s0: State, w: &mut [u32; 16], k: &[u32; 64]) -> State
+    requires { ⌜ (length (now w) ≡ 16) × (now k ≡ K) ⌝ }
+    ensures { λ r. ⌜ Rolling (extended 48 (now (w .entry))) s0 48 (now (w .exit)) r ⌝ }
 {
     let mut s = s0;
     let mut t = 0;
     while t < 48 {
-        s = round_and_word(s, w, k, t);
-        s = round_and_word(s, w, k, t + 1);
-        s = round_and_word(s, w, k, t + 2);
-        s = round_and_word(s, w, k, t + 3);
-        s = round_and_word(s, w, k, t + 4);
-        s = round_and_word(s, w, k, t + 5);
-        s = round_and_word(s, w, k, t + 6);
-        s = round_and_word(s, w, k, t + 7);
+        s = sixteen_rounds(s, w, k, t);
+        t += 16;
+    }
+    s
+}
+
+// The rounds t to t + 15, each with the word 16 places on. To make the words beside the rounds is faster than before them.
+fn sixteen_rounds(s: State, w: &mut [u32; 16], k: &[u32; 64], t: usize) -> State
+    requires { ⌜ (t + 16 ≤ 48) × (t % 16 ≡ 0) × (now k ≡ K) ⌝ }
+    ensures { λ r. ⌜ ((x : List ℕ) (z : State) → Grown x → Rolling x z t (now (w .entry)) s → Rolling x z (t + 16) (now (w .exit)) r) ⌝ }
+{
+    let s1 = round_and_word(s, w, k, t, 0);
+    let s2 = round_and_word(s1, w, k, t, 1);
+    let s3 = round_and_word(s2, w, k, t, 2);
+    let s4 = round_and_word(s3, w, k, t, 3);
+    let s5 = round_and_word(s4, w, k, t, 4);
+    let s6 = round_and_word(s5, w, k, t, 5);
+    let s7 = round_and_word(s6, w, k, t, 6);
+    let s8 = round_and_word(s7, w, k, t, 7);
+    let s9 = round_and_word(s8, w, k, t, 8);
+    let s10 = round_and_word(s9, w, k, t, 9);
+    let s11 = round_and_word(s10, w, k, t, 10);
+    let s12 = round_and_word(s11, w, k, t, 11);
+    let s13 = round_and_word(s12, w, k, t, 12);
+    let s14 = round_and_word(s13, w, k, t, 13);
+    let s15 = round_and_word(s14, w, k, t, 14);
+    round_and_word(s15, w, k, t, 15)
+}
+
+// The round t + i, and the word t + i + 16 of the schedule, for a t that 16 divides.
+fn round_and_word(s: State, w: &mut [u32; 16], k: &[u32; 64], t: usize, i: usize) -> State
+    requires { ⌜ (t + 16 ≤ 48) × (t % 16 ≡ 0) × (i < 16) × (now k ≡ K) ⌝ }
+    ensures { λ r. ⌜ ((x : List ℕ) (z : State) → Grown x → Rolling x z (t + i) (now (w .entry)) s → Rolling x z (t + (i + 1)) (now (w .exit)) r) ⌝ }
+{
+    let x = w[i];
+    w[i] = schedule_sum(x, w[(i + 1) % 16], w[(i + 9) % 16], w[(i + 14) % 16]);
+    round(s, k[t + i], x)
+}
+
+// The last 16 rounds.
+fn last_rounds(s: State, w: &[u32; 16], k: &[u32; 64]) -> State
+    requires { ⌜ now k ≡ K ⌝ }
+    ensures { λ r. ⌜ ((x : List ℕ) (z : State) → Rolling x z 48 (now (w .entry)) s → r ≡ rounds 64 x z) ⌝ }
+{
+    let s1 = last_round(s, w, k, 0);
+    let s2 = last_round(s1, w, k, 1);
+    let s3 = last_round(s2, w, k, 2);
+    let s4 = last_round(s3, w, k, 3);
+    let s5 = last_round(s4, w, k, 4);
+    let s6 = last_round(s5, w, k, 5);
+    let s7 = last_round(s6, w, k, 6);
+    let s8 = last_round(s7, w, k, 7);
+    let s9 = last_round(s8, w, k, 8);
+    let s10 = last_round(s9, w, k, 9);
+    let s11 = last_round(s10, w, k, 10);
+    let s12 = last_round(s11, w, k, 11);
+    let s13 = last_round(s12, w, k, 12);
+    let s14 = last_round(s13, w, k, 13);
+    let s15 = last_round(s14, w, k, 14);
+    last_round(s15, w, k, 15)
+}
+
+// The round 48 + i.
+fn last_round(s: State, w: &[u32; 16], k: &[u32; 64], i: usize) -> State
+    requires { ⌜ (i < 16) × (now k ≡ K) ⌝ }
+    ensures { λ r. ⌜ r ≡ oneRound (getD K (48 + i) 0) (getD (now (w .entry)) i 0) s ⌝ }
+{
+    round(s, k[48 + i], w[i])
+}
+
+// All rounds by the sums of their constants and their words.
+fn summed_rounds(s0: State, q: &[u32; 64]) -> State
+    ensures { λ r. ⌜ EachSchedule (now (q .entry)) (λ w. r ≡ rounds 64 w s0) ⌝ }
+{
+    let mut s = s0;
+    let mut t = 0;
+    while t < 64 {
+        s = eight_rounds(s, q, t);
         t += 8;
     }
     s
 }
 
-// The word t + 16 of the schedule, and the round t.
-fn round_and_word(s: State, w: &mut [u32; 64], k: &[u32; 64], t: usize) -> State
-    requires { ⌜ (t < 48) × (now k ≡ K) ⌝ }
-    ensures { λ _. ⌜ now (w .exit) ≡ set (now (w .entry)) (t + 16) (nextWord (now (w .entry)) t) ⌝ }
-    ensures { λ r. ⌜ r ≡ oneRound (getD K t 0) (getD (now (w .entry)) t 0) s ⌝ }
+// The eight rounds from t, by their sums: where s is what t rounds make of z, the result is what t + 8 rounds make of it.
+fn eight_rounds(s: State, q: &[u32; 64], t: usize) -> State
+    requires { ⌜ t + 8 ≤ 64 ⌝ }
+    ensures { λ r. ⌜ EachSchedule (now (q .entry)) (λ w. ((z : State) → s ≡ rounds t w z → r ≡ rounds (t + 8) w z)) ⌝ }
 {
-    let x = w[t];
-    w[t + 16] = next_word(w, t);
-    round(s, k[t], x)
+    let s1 = summed_round(s, q, t);
+    let s2 = summed_round(s1, q, t + 1);
+    let s3 = summed_round(s2, q, t + 2);
+    let s4 = summed_round(s3, q, t + 3);
+    let s5 = summed_round(s4, q, t + 4);
+    let s6 = summed_round(s5, q, t + 5);
+    let s7 = summed_round(s6, q, t + 6);
+    summed_round(s7, q, t + 7)
 }
 
-// The eight rounds from t: where s is what t rounds make of z, the result is what t + 8 rounds make of it.
-fn eight_rounds(s: State, w: &[u32; 64], k: &[u32; 64], t: usize) -> State
-    requires { ⌜ (t + 8 ≤ 64) × (now k ≡ K) ⌝ }
-    ensures { λ r. ⌜ ((z : State) → s ≡ rounds t (now (w .entry)) z → r ≡ rounds (t + 8) (now (w .entry)) z) ⌝ }
+// The round t by the sum of its constant and its word, from a table of such sums: no schedule is worked out.
+pub fn summed_round(s: State, q: &[u32; 64], t: usize) -> State
+    requires { ⌜ t < 64 ⌝ }
+    ensures { λ r. ⌜ EachSchedule (now (q .entry)) (λ w. r ≡ oneRound (getD K t 0) (getD w t 0) s) ⌝ }
 {
-    let s1 = round_at(s, w, k, t);
-    let s2 = round_at(s1, w, k, t + 1);
-    let s3 = round_at(s2, w, k, t + 2);
-    let s4 = round_at(s3, w, k, t + 3);
-    let s5 = round_at(s4, w, k, t + 4);
-    let s6 = round_at(s5, w, k, t + 5);
-    let s7 = round_at(s6, w, k, t + 6);
-    round_at(s7, w, k, t + 7)
-}
-
-// The round t.
-pub fn round_at(s: State, w: &[u32; 64], k: &[u32; 64], t: usize) -> State
-    requires { ⌜ (t < 64) × (now k ≡ K) ⌝ }
-    ensures { λ r. ⌜ r ≡ oneRound (getD K t 0) (getD (now (w .entry)) t 0) s ⌝ }
-{
-    round(s, k[t], w[t])
+    round(s, q[t], 0)
 }
 
 // 6.2.2, step 3: one round, with its constant and its word.
@@ -245,15 +296,7 @@ pub fn add_states(s: State, t: State) -> State
     }
 }
 
-// 6.2.2, step 1: the word t + 16 of the schedule.
-fn next_word(w: &[u32; 64], t: usize) -> u32
-    requires { ⌜ t < 48 ⌝ }
-    ensures { λ r. ⌜ r ≡ nextWord (now (w .entry)) t ⌝ }
-{
-    schedule_sum(w[t], w[t + 1], w[t + 9], w[t + 14])
-}
-
-// That word, from the words t, t + 1, t + 9 and t + 14.
+// 6.2.2, step 1: the word t + 16 of the schedule, from the words t, t + 1, t + 9 and t + 14.
 pub fn schedule_sum(w0: u32, w1: u32, w9: u32, w14: u32) -> u32
     ensures { λ r. ⌜ r ≡ σ1 w14 ⊞ w9 ⊞ σ0 w1 ⊞ w0 ⌝ }
 {
@@ -261,10 +304,10 @@ pub fn schedule_sum(w0: u32, w1: u32, w9: u32, w14: u32) -> u32
     wrapping_add_u32(wrapping_add_u32(x, small_sigma0(w1)), w0)
 }
 
-// 5.2.1: the block's 16 words, at the front of w.
-fn load_words(block: &[u8], w: &mut [u32; 64])
-    requires { ⌜ (length (now block) ≡ 64) × (length (now w) ≡ 64) ⌝ }
-    ensures { λ _. ⌜ (length (now (w .exit)) ≡ 64) × (take 16 (now (w .exit)) ≡ words 16 (now (block .entry))) ⌝ }
+// 5.2.1: the block's 16 words.
+fn load_words(block: &[u8], w: &mut [u32; 16])
+    requires { ⌜ (length (now block) ≡ 64) × (length (now w) ≡ 16) ⌝ }
+    ensures { λ _. ⌜ (length (now (w .exit)) ≡ 16) × (now (w .exit) ≡ words 16 (now (block .entry))) ⌝ }
 {
     let mut i = 0;
     while i < 16 {

@@ -1,7 +1,10 @@
 -- `sha256::hash_event` meets its contract.
 -- Assumes nothing.
 use mathlib.Core.Path.{refl}
-use Rattle.sha256.specs.Sha256.{wordBytes, lengthBytes, padded, words, nextWord, extended, rounds}
+use mathlib.Core.List.{[]}
+use Rattle.sha256.specs.Constants.{K}
+use Rattle.sha256.specs.Sha256.{wordBytes, lengthBytes, padded, words, nextWord, extended, schedule}
+use Rattle.sha256.specs.Sums.{sums}
 use Rattle.sha256.proofs.Event.{event}
 use borrow.Author.Needs.{needs}
 use Rattle.sha256.proofs.hash_event.Statement.{statement}
@@ -34,20 +37,20 @@ part-compress-by-end-2 c = search needs
 compress-by-requires-2 : tie.Need-compress-by-requires-2
 compress-by-requires-2 c κs = search needs
 
-sub-compress-by-3 : tie.Need-sub-compress-by-3
-sub-compress-by-3 c = search needs
+sub-compress-third : tie.Need-sub-compress-third
+sub-compress-third c = search needs
 
-part-compress-by-start-3 : tie.Need-part-compress-by-start-3
-part-compress-by-start-3 c = search needs
+part-compress-third-start : tie.Need-part-compress-third-start
+part-compress-third-start c = search needs
 
-part-compress-by-end-3 : tie.Need-part-compress-by-end-3
-part-compress-by-end-3 c = search needs
+part-compress-third-end : tie.Need-part-compress-third-end
+part-compress-third-end c = search needs
 
-compress-by-requires-3 : tie.Need-compress-by-requires-3
-compress-by-requires-3 c κs = search needs
+compress-third-requires : tie.Need-compress-third-requires
+compress-third-requires c κs = search needs
 
-last-rounds-requires : tie.Need-last-rounds-requires
-last-rounds-requires c κs = search needs
+summed-rounds-requires : tie.Need-summed-rounds-requires
+summed-rounds-requires c κs = search needs
 
 add-states-requires : tie.Need-add-states-requires
 add-states-requires c κs = search needs
@@ -60,9 +63,8 @@ returns c =
     let c1 = c2 .before .before in
     let c0 = c1 .before .before in
     let start = c0 .before .before in
-    event (start .args .event .now) _ (start .pre .0) (c0 .initial .ensures) (c1 .compress-by .ensures) (c2 .compress-by2 .ensures)
-    (c3 .compress-by3 .ensures) (c4 .last-rounds .ensures _ (unfold rounds in refl)) (c .add-states .ensures) refl
-    (unfold words nextWord extended wordBytes lengthBytes padded in refl)
+    event (start .args .event .now) (schedule (padded [] 1536)) (start .pre .0) (c0 .initial .ensures) (c1 .compress-by .ensures) (c2 .compress-by2 .ensures)
+    (c3 .compress-third .ensures) (c4 .summed-rounds .ensures _ (unfold K sums words nextWord extended wordBytes lengthBytes padded in refl)) (c .add-states .ensures) refl refl
 
 pub hash-event-spec : {M : Type 1} → statement M
 hash-event-spec =
@@ -77,10 +79,10 @@ hash-event-spec =
     part-compress-by-start-2
     part-compress-by-end-2
     compress-by-requires-2
-    sub-compress-by-3
-    part-compress-by-start-3
-    part-compress-by-end-3
-    compress-by-requires-3
-    last-rounds-requires
+    sub-compress-third
+    part-compress-third-start
+    part-compress-third-end
+    compress-third-requires
+    summed-rounds-requires
     add-states-requires
     returns)

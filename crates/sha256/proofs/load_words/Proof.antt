@@ -1,9 +1,10 @@
 -- `sha256::load_words` meets its contract.
 -- Assumes nothing.
-use mathlib.Core.Path.{_≡_, refl}
+use mathlib.Core.Path.{_≡_, refl, sym, _∙_}
 use Prim.Native.Nat.{_-_, _≤_, _<_}
 use native.Mathlib.Omega.{arith}
 use lib.ListN.{length, take, length-set}
+use lib.Seq.{take-all}
 use borrow.Author.Needs.{needs}
 use Rattle.sha256.specs.Sha256.{words}
 use Rattle.sha256.proofs.Rounds.{words-turn}
@@ -11,7 +12,7 @@ use Rattle.sha256.proofs.load_words.Statement.{statement}
 use Rattle.sha256.proofs.load_words.Tie as tie
 
 abbrev Inv-loop : tie.InvT-loop
-Inv-loop block w₀ i₀ w i = (i ≤ 16) × (length w ≡ 64) × (take i w ≡ words i block)
+Inv-loop block w₀ i₀ w i = (i ≤ 16) × (length w ≡ 16) × (take i w ≡ words i block)
 
 abbrev μ-loop : tie.MeasureT-loop
 μ-loop block w₀ i₀ w i = 16 - i
@@ -47,7 +48,8 @@ returns : tie.Need-returns Inv-loop μ-loop
 returns c =
     let at-loop = c .before in
     let e : at-loop .loop .i ≡ 16 = omega arith in
-    (at-loop .loop .inv .1, rw e at (at-loop .loop .inv .2))
+    let long = at-loop .loop .inv .1 in
+    (long, sym (take-all 16 (at-loop .loop .w) (omega (arith, long))) ∙ (rw e at (at-loop .loop .inv .2)))
 
 pub load-words-spec : {M : Type 1} → statement M
 load-words-spec =

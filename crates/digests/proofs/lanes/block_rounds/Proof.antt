@@ -3,7 +3,8 @@ use mathlib.Core.List.{List}
 use Prim.Native.Nat.{ℕ, _+_, _*_}
 use Rattle.octets.specs.Octets.{part}
 use Rattle.sha256.specs.Sha256.{padded, messageBlock, schedule}
-use Rattle.digests.specs.Lanes.{stateAt, sums}
+use Rattle.sha256.specs.Sums.{sums}
+use Rattle.digests.specs.Lanes.{stateAt}
 use Rattle.digests.proofs.Events.{event-block, block-rounds}
 use borrow.Author.Needs.{needs}
 use Rattle.digests.proofs.lanes.block_rounds.Statement.{statement}

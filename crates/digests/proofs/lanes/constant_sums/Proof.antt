@@ -2,7 +2,7 @@ use mathlib.Core.Path.{refl}
 use borrow.Author.Tests.{eq-eqb, ne-eqb}
 use Rattle.sha256.specs.Constants.{K}
 use Rattle.sha256.specs.Sha256.{wordBytes, lengthBytes, padded, words, nextWord, extended}
-use Rattle.digests.specs.Lanes.{sums}
+use Rattle.sha256.specs.Sums.{sums}
 use Rattle.digests.proofs.lanes.constant_sums.Statement.{statement}
 use Rattle.digests.proofs.lanes.constant_sums.Tie as tie
 

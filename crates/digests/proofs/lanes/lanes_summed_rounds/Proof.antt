@@ -2,7 +2,8 @@ use mathlib.Core.Path.{_≡_}
 use Prim.Native.Nat.{_-_, _<_, _≤_}
 use native.Mathlib.Omega.{arith}
 use lib.ListN.{length}
-use Rattle.digests.specs.Lanes.{stateAt, roundsFrom, EachSchedule}
+use Rattle.sha256.specs.Sums.{EachSchedule}
+use Rattle.digests.specs.Lanes.{stateAt, roundsFrom}
 use Rattle.digests.proofs.Sweep.{Below, none-done, one-done, all-done}
 use borrow.Author.Needs.{needs}
 use Rattle.digests.proofs.lanes.lanes_summed_rounds.Statement.{statement}

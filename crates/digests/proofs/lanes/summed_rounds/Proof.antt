@@ -3,7 +3,8 @@ use Prim.Native.Nat.{_-_, _%_, _≤_}
 use native.Mathlib.Omega.{arith}
 use lib.ListN.{length}
 use Rattle.sha256.specs.Sha256.{rounds}
-use Rattle.digests.specs.Lanes.{stateAt, EachLane, EachSchedule}
+use Rattle.sha256.specs.Sums.{EachSchedule}
+use Rattle.digests.specs.Lanes.{stateAt, EachLane}
 use Rattle.digests.proofs.Compression.{same-turn}
 use borrow.Author.Needs.{needs}
 use Rattle.digests.proofs.lanes.summed_rounds.Statement.{statement}

@@ -1,7 +1,9 @@
-use Rattle.digests.proofs.Rounds.{sum-round}
+-- `sha256::summed_round` meets its contract.
+-- Assumes nothing.
+use Rattle.sha256.proofs.Sums.{sum-round}
 use borrow.Author.Needs.{needs}
-use Rattle.digests.proofs.lanes.summed_round.Statement.{statement}
-use Rattle.digests.proofs.lanes.summed_round.Tie as tie
+use Rattle.sha256.proofs.summed_round.Statement.{statement}
+use Rattle.sha256.proofs.summed_round.Tie as tie
 
 mul-round : tie.Need-mul-round
 mul-round c = search needs
@@ -13,10 +15,9 @@ round-requires : tie.Need-round-requires
 round-requires c κs = search needs
 
 returns : tie.Need-returns
-returns c =
+returns c w e =
     let start = c .before .before in
-    let a = start .args in
-    λ w e. sum-round w (a .q .now) (a .t) (a .s) (start .pre) e (c .round .ensures)
+    sum-round w _ (start .args .t) (start .args .s) (start .pre) e (c .round .ensures)
 
 pub summed-round-spec : {M : Type 1} → statement M
 summed-round-spec = tie.close (tie.spec mul-round element-copy-out-round round-requires returns)

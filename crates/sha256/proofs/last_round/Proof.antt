@@ -1,8 +1,11 @@
--- `sha256::round_at` meets its contract.
+-- `sha256::last_round` meets its contract.
 -- Assumes nothing.
 use borrow.Author.Needs.{needs}
-use Rattle.sha256.proofs.round_at.Statement.{statement}
-use Rattle.sha256.proofs.round_at.Tie as tie
+use Rattle.sha256.proofs.last_round.Statement.{statement}
+use Rattle.sha256.proofs.last_round.Tie as tie
+
+add-round : tie.Need-add-round
+add-round c = search needs
 
 mul-round : tie.Need-mul-round
 mul-round c = search needs
@@ -22,10 +25,11 @@ round-requires c κs = search needs
 returns : tie.Need-returns
 returns c = cc
 
-pub round-at-spec : {M : Type 1} → statement M
-round-at-spec =
+pub last-round-spec : {M : Type 1} → statement M
+last-round-spec =
     tie.close
     (tie.spec
+    add-round
     mul-round
     element-copy-out-round
     mul-round-2
