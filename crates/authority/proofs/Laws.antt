@@ -7,7 +7,7 @@ use mathlib.Core.Bool.{Bool, true, false, not, _&&_, _||_}
 use mathlib.Core.Option.{none, some}
 use mathlib.Core.List.{List, List·Memᴰ, List·Memᴰ·not-nil}
 use lib.Dec.{eqb}
-use lib.ListN.{length, getD, take, set, length-set, replicate}
+use lib.ListN.{length, getD, take, set, length-set, replicate, length-replicate, getD-replicate}
 use lib.Seq.{getD-set-same, getD-set-other, take-all}
 use borrow.Author.Tests.{eq-eqb, ne-eqb, eqb-true, eqb-false, lt-ltb, le-ltb}
 use Rattle.lists.specs.Cases.{byBool}
@@ -21,7 +21,8 @@ use Rattle.event.specs.Contents.{bodyOf}
 use Rattle.model.specs.Verdicts.{givenBy, has, within}
 use Rattle.history.specs.Parents.{eventAt, placeBy}
 use Rattle.history.specs.Order.{Ordered}
-use Rattle.tables.specs.Filling.{more→, more←, last}
+use Rattle.history.specs.OrderLaws.{parents-listed}
+use Rattle.tables.specs.Filling.{zeros-all, more→, more←, last}
 use Rattle.authority.specs.KindLaws.{Kind, creating, granting, revoking, joining, unplugging, kind-of}
 use Rattle.authority.specs.AuthorityLaws.{and-three}
 use Rattle.authority.specs.Lines.{ifAncestor, targetAt, lineFrom, Outside, Skip, Jump, JumpTable, Leads}
@@ -143,13 +144,11 @@ module _ (Q : List ℕ) (left sought place : ℕ) (r : Step) (leads : Leads Q le
       → anyOf (eqb sought) (lineFrom Q (left - r .steps) (r .place)) ≡ anyOf (eqb sought) (lineFrom Q left place)
   line-passed d = sym (leads .on low ∙ rw (ne-eqb sought (r .place) d))
 
-zeros-at : (n k : ℕ) → _≡_ {A = ℕ} (getD (replicate n 0) k 0) 0
-zeros-at zero k = refl
-zeros-at (suc n) zero = refl
-zeros-at (suc n) (suc k) = zeros-at n k
-
 pub no-jumps : (n : ℕ) (Q T : List ℕ) → JumpTable Q T (replicate n 0)
-no-jumps n Q T = record { jump = λ k. rw (zeros-at n k) (jump-none Q T k) }
+no-jumps n Q T =
+    let none : ℕ = 0 in
+    let zeros = zeros-all (replicate n none) (λ k h. getD-replicate n k none 0 (omega (arith, h, length-replicate n none))) in
+    record { jump = λ k. rw (zeros k) (jump-none Q T k) }
 
 -- ── what a presented event gives ────────────────────────────────────────────────────────────────────────────────────────
 
@@ -252,7 +251,6 @@ sound-keep store P T Q G S k q v apart =
 pub record Done (store : Bytes) (P T Q G l S : List ℕ) (i : ℕ) : Type 0 where
   pub long : length S ≡ 256
   pub within : i ≤ length l
-  pub parents : (k j : ℕ) → List·Memᴰ k (take i l) → j < 3 → getD P (k * 3 + j) 0 < 256 → List·Memᴰ (getD P (k * 3 + j) 0) (take i l)
   pub made : (k : ℕ) → List·Memᴰ k (take i l) → getD S k 0 ≡ bit (soundAt store P T Q G S k)
   pub rest : (k : ℕ) → (List·Memᴰ k (take i l) → ⊥) → getD S k 0 ≡ 0
 
@@ -265,7 +263,6 @@ module _ (store : Bytes) (P T Q G l : List ℕ) where
       record {
         long = e;
         within = omega arith;
-        parents = λ k j m. absurd (List·Memᴰ·not-nil m);
         made = λ k m. absurd (List·Memᴰ·not-nil m);
         rest = λ k m. zeros k;
       }
@@ -295,7 +292,7 @@ module _ (store : Bytes) (P T Q G l : List ℕ) where
         → List·Memᴰ (getD P (q * 3 + j) 0) (take i l)
     parent-before q m j lj lp =
         byPlace q m
-        (λ r. d .parents q j r lj lp)
+        (λ r. parents-listed P l ordered i (d .within) q j r lj lp)
         (λ (e : q ≡ getD l i 0). rw e (ordered .behind i j inside lj (rw e at lp)))
 
     kept : (q : ℕ) → List·Memᴰ q (take (i + 1) l) → soundAt store P T Q G S q ≡ soundAt store P T Q G (set S (getD l i 0) v) q
@@ -308,7 +305,6 @@ module _ (store : Bytes) (P T Q G l : List ℕ) where
         record {
           long = length-set S (getD l i 0) v ∙ d .long;
           within = omega arith;
-          parents = λ q j m lj lp. earlier (getD P (q * 3 + j) 0) (parent-before q m j lj lp);
           made = λ q m. byPlace q m
               (λ r. getD-set-other S (getD l i 0) q v 0 (λ e. new (rw e at r)) ∙ d .made q r ∙ ap bit (kept q m))
               (λ (e : q ≡ getD l i 0). rw e (getD-set-same S (getD l i 0) v 0 (omega (arith, listed-low P l i ordered inside, d .long)) ∙ value ∙ ap bit (kept (getD l i 0) here)));

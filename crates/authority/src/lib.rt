@@ -78,7 +78,7 @@ fn target_place(store: &[u8], n: u16, ids: &[u8], index: &[u16], rows: &[u64], k
 }
 
 // Fills the presented place of each of n places.
-pub fn presented_places(
+fn presented_places(
     store: &[u8],
     n: u16,
     ids: &[u8],
@@ -98,14 +98,7 @@ pub fn presented_places(
 }
 
 // Fills the target of each of n places.
-pub fn target_places(
-    store: &[u8],
-    n: u16,
-    ids: &[u8],
-    index: &[u16],
-    rows: &[u64],
-    table: &mut [u16],
-)
+fn target_places(store: &[u8], n: u16, ids: &[u8], index: &[u16], rows: &[u64], table: &mut [u16])
     requires { ⌜ (n ≤ 256) × (n ≤ length (now index)) × Ascending (idAt (now ids)) (take n (now index)) × (length (now table) ≡ 256) ⌝ }
     ensures { λ _. ⌜ TargetTable (now (store .entry)) n (now (ids .entry)) (now (index .entry)) (now (rows .entry)) (now (table .exit)) ⌝ }
 {
@@ -161,7 +154,7 @@ fn next_step(
 
 // Whether the sought place is on the line of a place: the question is passed to a place nearer the creator. `left` bounds the steps
 // to the creator and falls at each call.
-pub fn on_line(
+fn on_line(
     presented: &[u16],
     levels: &[u16],
     jumps: &[u16],
@@ -357,7 +350,7 @@ fn sound_at(
 }
 
 // Says of each listed place whether it is sound (1); every other entry is 0. The places stand behind their parents.
-pub fn sound_places(
+fn sound_places(
     store: &[u8],
     parents: &[u16],
     order: &[u16],
