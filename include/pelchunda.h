@@ -113,7 +113,7 @@ uint8_t pelchunda_start(uint8_t *store, size_t store_len,
  * returns  0 to 7; a refusal leaves the store, the count and repeat as they
  *          were
  * empty    store or event: 1
- * stack    13,568 bytes
+ * stack    14,080 bytes
  */
 uint8_t pelchunda_take(uint8_t *store, size_t store_len, size_t *count,
                        const uint8_t *event, size_t event_len,
@@ -127,7 +127,7 @@ uint8_t pelchunda_take(uint8_t *store, size_t store_len, size_t *count,
  *          the other two
  * returns  as pelchunda_take
  * empty    as pelchunda_take; the tally's refused is raised
- * stack    13,568 bytes
+ * stack    14,080 bytes
  */
 uint8_t pelchunda_take_counted(uint8_t *store, size_t store_len, size_t *count,
                                const uint8_t *event, size_t event_len,
@@ -144,7 +144,7 @@ uint8_t pelchunda_take_counted(uint8_t *store, size_t store_len, size_t *count,
  * returns  0, 1, 2 or 8; a refusal leaves the store, the count and the figures
  *          as they were
  * empty    store: 1; bundle: 8, where the store is good
- * stack    21,760 bytes
+ * stack    22,528 bytes
  */
 uint8_t pelchunda_take_bundle(uint8_t *store, size_t store_len, size_t *count,
                               const uint8_t *bundle, size_t bundle_len,
@@ -157,7 +157,7 @@ uint8_t pelchunda_take_bundle(uint8_t *store, size_t store_len, size_t *count,
  *          4,294,967,295. A refused bundle leaves it as it was
  * returns  as pelchunda_take_bundle
  * empty    as pelchunda_take_bundle
- * stack    21,760 bytes
+ * stack    22,528 bytes
  */
 uint8_t pelchunda_take_bundle_counted(uint8_t *store, size_t store_len, size_t *count,
                                       const uint8_t *bundle, size_t bundle_len,
@@ -170,7 +170,7 @@ uint8_t pelchunda_take_bundle_counted(uint8_t *store, size_t store_len, size_t *
  * place    the event's place: its 192 bytes start at store + 192 * place
  * returns  0, 1, 2 or 9; a refusal leaves place as it was
  * empty    store or id: 1
- * stack    12,032 bytes
+ * stack    12,800 bytes
  */
 uint8_t pelchunda_look_up(const uint8_t *store, size_t store_len, size_t count,
                           const uint8_t *id, size_t id_len,
@@ -230,7 +230,7 @@ uint8_t pelchunda_map(const uint8_t *store, size_t store_len, size_t count,
  * bytes    the length of the bundle
  * returns  0, 1, 2, 10 or 11; a refusal leaves out and bytes as they were
  * empty    store: 1; out: 10, where the store is good
- * stack    15,872 bytes
+ * stack    16,640 bytes
  */
 uint8_t pelchunda_write_out(const uint8_t *store, size_t store_len, size_t count,
                             uint8_t *out, size_t out_len,
@@ -248,7 +248,7 @@ uint8_t pelchunda_write_out(const uint8_t *store, size_t store_len, size_t count
  *          3 and 5 (its first event), 10. A refusal leaves out and bytes as
  *          they were, and all but 10 the store too
  * empty    store: 1; bundle: 8; out: 10, where the bundle starts a unit
- * stack    38,400 bytes
+ * stack    39,168 bytes
  */
 uint8_t pelchunda_text(const uint8_t *bundle, size_t bundle_len,
                        uint8_t *store, size_t store_len,
@@ -262,7 +262,7 @@ uint8_t pelchunda_text(const uint8_t *bundle, size_t bundle_len,
  * id       32 bytes, all written
  * returns  0; or 1 where a length is another, and id stays as it was
  * empty    event or id: 1
- * stack    1,536 bytes
+ * stack    1,280 bytes
  */
 uint8_t pelchunda_id(const uint8_t *event, size_t event_len,
                      uint8_t *id, size_t id_len);

@@ -3,24 +3,24 @@ use Prim.Native.Nat.{ℕ, zero, suc, _+_, _*_, _≤_, _<_, min}
 use native.Mathlib.Omega.{arith}
 use mathlib.Core.Path.{_≡_, refl, ap, _∙_, subst}
 use mathlib.Core.Logic.{⊎-elim}
-use mathlib.Core.Bool.{Bool, true, false, not, _&&_, _||_}
+use mathlib.Core.Bool.{Bool, true, false, _&&_}
 use mathlib.Core.Option.{none}
 use mathlib.Core.List.{List, [], _∷_, map, List·Memᴰ, List·Memᴰ·cases-cons, Memᴰ·of-map}
 use lib.Dec.{eqb, leb, ltb}
-use lib.ListN.{length, getD, drop}
+use lib.ListN.{length, getD}
 use borrow.Author.Tests.{eqb-true, leb-true}
 use Rattle.lists.specs.Cases.{byBool, clash, and→}
-use Rattle.lists.specs.Bytes.{Bytes, sameBytes}
+use Rattle.lists.specs.Bytes.{Bytes}
 use Rattle.lists.specs.Tests.{allOf}
 use Rattle.octets.specs.Octets.{byteAt, be16, part}
 use Rattle.cords.specs.Cords.{family, grade, limits, entryOf, cordLimit}
 use Rattle.event.specs.declared.Cord.{Cord}
 use Rattle.event.specs.declared.Body.{Body}
 use Rattle.event.specs.declared.Body.the-variants.{Create as create, Grant as grant, Revoke as revoke, Join as join, Unplug as unplug}
-use Rattle.event.specs.Fields.{kindOf, roomOf, fieldsGood}
+use Rattle.event.specs.Fields.{kindOf}
 use Rattle.event.specs.Contents.{portA, portB, kindA, kindB, cordAt, bodyOf}
-use Rattle.event.specs.Checks.{cordGood, offerTests, refusal}
-use Rattle.event.specs.CheckLaws.{passed→, passes→, join-ports}
+use Rattle.event.specs.Checks.{cordGood, refusal}
+use Rattle.event.specs.CheckLaws.{passes→, join-ports}
 use Rattle.model.specs.Events.{Event}
 use Rattle.model.specs.Store.{eventOf, places, heldIn, creatorGood, storeGood}
 use Rattle.model.specs.StoreLaws.{checked→, checked-held, places-first, creator→, later→}
@@ -79,23 +79,13 @@ join-cord : (x : Bytes) (c : Cord) → bodyOf x ≡ join c → cordIn x ≡ c
 unfolding bodyOf
 join-cord x c e = let q : joined c (bodyOf x) ≡ c = ap (joined c) e in rw (join-kind x c e) at q
 
--- an offer that passes, passes check 6
-passes-cord : (entry : ℕ → ℕ → ℕ) (creator e : Bytes) → refusal entry creator e ≡ none → cordGood entry (bodyOf e) ≡ true
-unfolding refusal
-passes-cord entry creator e h =
-    let tests = offerTests entry creator e in
-    let long = passed→ 1 (eqb (length e) 192) (drop 1 tests) h in
-    let fields = passed→ 3 (fieldsGood e) (drop 2 tests) (long .1) in
-    let room = passed→ 4 (sameBytes (roomOf e) (roomOf creator)) (drop 3 tests) (fields .1) in
-    let create = passed→ 5 (not (eqb (kindOf e) 0) || sameBytes e creator) (drop 4 tests) (room .1) in
-    passed→ 6 (cordGood entry (bodyOf e)) [] (create .1) .0
-
 join-fits : (creator x : Bytes) (c : Cord) → refusal cordLimit creator x ≡ none → bodyOf x ≡ join c → Fits c
 unfolding cordGood
 join-fits creator x c r e =
+    let passed = passes→ cordLimit creator x r in
     let cord = join-cord x c e in
-    let ports = join-ports x (passes→ cordLimit creator x r .fields) (join-kind x c e) in
-    let short : leb (c .metres) (cordLimit (kindA c) (kindB c)) ≡ true = rw e at (passes-cord cordLimit creator x r) in
+    let ports = join-ports x (passed .fields) (join-kind x c e) in
+    let short : leb (c .metres) (cordLimit (kindA c) (kindB c)) ≡ true = rw e at (passed .cord) in
     let a : be16 x 8 ≡ portA c = ap (λ (y : Cord). portA y) cord in
     let b : be16 x 10 ≡ portB c = ap (λ (y : Cord). portB y) cord in
     record {
