@@ -184,7 +184,7 @@ uint8_t pelchunda_look_up(const uint8_t *store, size_t store_len, size_t count,
  * rows     the number of rows
  * returns  0, 1, 2, 10 or 11; a refusal leaves out and rows as they were
  * empty    store: 1; out: 10, where the store is good
- * stack    32,512 bytes
+ * stack    33,024 bytes
  */
 uint8_t pelchunda_order(const uint8_t *store, size_t store_len, size_t count,
                         uint8_t *out, size_t out_len,
@@ -197,7 +197,7 @@ uint8_t pelchunda_order(const uint8_t *store, size_t store_len, size_t count,
  * verdict  0 waiting, 1 unsound, 2 void, 3 effective
  * returns  0, 1, 2, 9 or 11; a refusal leaves verdict as it was
  * empty    store or id: 1
- * stack    32,512 bytes
+ * stack    33,024 bytes
  */
 uint8_t pelchunda_verdict(const uint8_t *store, size_t store_len, size_t count,
                           const uint8_t *id, size_t id_len,
@@ -216,7 +216,7 @@ uint8_t pelchunda_verdict(const uint8_t *store, size_t store_len, size_t count,
  *          they were
  * empty    store: 1; out, where the store is good: 10, or 0 where no link
  *          stands
- * stack    35,072 bytes
+ * stack    35,584 bytes
  */
 uint8_t pelchunda_map(const uint8_t *store, size_t store_len, size_t count,
                       uint8_t *out, size_t out_len,
@@ -230,7 +230,7 @@ uint8_t pelchunda_map(const uint8_t *store, size_t store_len, size_t count,
  * bytes    the length of the bundle
  * returns  0, 1, 2, 10 or 11; a refusal leaves out and bytes as they were
  * empty    store: 1; out: 10, where the store is good
- * stack    16,640 bytes
+ * stack    17,152 bytes
  */
 uint8_t pelchunda_write_out(const uint8_t *store, size_t store_len, size_t count,
                             uint8_t *out, size_t out_len,
@@ -248,7 +248,7 @@ uint8_t pelchunda_write_out(const uint8_t *store, size_t store_len, size_t count
  *          3 and 5 (its first event), 10. A refusal leaves out and bytes as
  *          they were, and all but 10 the store too
  * empty    store: 1; bundle: 8; out: 10, where the bundle starts a unit
- * stack    39,168 bytes
+ * stack    39,680 bytes
  */
 uint8_t pelchunda_text(const uint8_t *bundle, size_t bundle_len,
                        uint8_t *store, size_t store_len,
