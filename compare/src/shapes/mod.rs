@@ -117,6 +117,21 @@ pub fn revokes_from_the_top() -> Vec<Ev> {
     es
 }
 
+/// A chain of joins whose ids all begin with a zero, as somebody who chooses events for their ids can make them.
+pub fn one_first_byte() -> Vec<Ev> {
+    let c = create(0);
+    let ci = id(&c);
+    let (mut es, mut last) = (vec![c], ci);
+    for a in 0..255u16 {
+        let tries = (a + 1..1024).flat_map(|b| (1..=80).map(move |metres| (b, metres)));
+        let mut joins = tries.map(|(b, metres)| join(0, &ci, (a, b), (4, 5), metres, &[last]));
+        let e = joins.find(|e| id(e)[0] == 0).expect("one of 256 begins with a zero");
+        last = id(&e);
+        es.push(e);
+    }
+    es
+}
+
 /// The sets that are timed, each of 256 events.
 pub fn timed() -> Vec<(&'static str, Vec<Ev>)> {
     vec![
@@ -128,6 +143,7 @@ pub fn timed() -> Vec<(&'static str, Vec<Ev>)> {
         ("revokes mixed", revokes(Revokes::Mixed)),
         ("mixed reversed", reversed(revokes(Revokes::Mixed))),
         ("from the top", revokes_from_the_top()),
+        ("one first byte", one_first_byte()),
     ]
 }
 
