@@ -1,15 +1,15 @@
 -- Rounds in one lane.
-use mathlib.Core.Path.{_≡_, refl, ap, _∙_}
-use mathlib.Core.List.{List, []}
-use Prim.Native.Nat.{ℕ, zero, suc, _+_, _*_, _/_, _<_}
+use mathlib.Core.Path.{_≡_, ap, _∙_}
+use mathlib.Core.List.{List}
+use Prim.Native.Nat.{ℕ, _+_, _*_, _/_, _<_}
 use native.Mathlib.Nat.{add-zero}
 use native.Mathlib.Omega.{arith}
 use lib.Dec.{ltb}
-use lib.ListN.{length, getD, set, length-append, List·getD-append}
-use lib.Seq.{getD-at, getD-set-same, getD-set-other}
+use lib.ListN.{length, getD, set}
+use lib.Seq.{getD-set-same, getD-set-other}
 use borrow.Author.Tests.{ltb-true, ltb-false}
 use Rattle.lists.specs.Cases.{byBool}
-use Rattle.sha256.specs.Words.{_⊞_, Ch, Σ1, σ0, σ1}
+use Rattle.sha256.specs.Words.{_⊞_, σ0, σ1}
 use Rattle.sha256.specs.Constants.{K}
 use Rattle.sha256.specs.Sha256.{nextWord, oneRound}
 use Rattle.sha256.specs.declared.State.{State}

@@ -8,7 +8,7 @@ use native.Mathlib.Numerals.{add-one}
 use native.Mathlib.Omega.{arith}
 use lib.ListN.{length, getD, take, set, length-append, List·getD-append}
 use lib.Seq.{take-suc-set}
-use Rattle.sha256.specs.Sha256.{wordAt, words, nextWord, extended, oneRound, rounds}
+use Rattle.sha256.specs.Sha256.{wordAt, words, extended, oneRound, rounds}
 use Rattle.sha256.specs.Constants.{K}
 use Rattle.sha256.specs.declared.State.{State}
 

@@ -2,7 +2,6 @@
 -- Assumes nothing.
 use native.Mathlib.Omega.{arith}
 use Rattle.sha256.proofs.Rolling.{last-turn}
-use borrow.Author.Needs.{needs}
 use Rattle.sha256.proofs.last_rounds.Statement.{statement}
 use Rattle.sha256.proofs.last_rounds.Tie as tie
 

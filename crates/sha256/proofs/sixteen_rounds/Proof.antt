@@ -4,7 +4,6 @@ use Prim.Native.Nat.{_+_}
 use native.Mathlib.Nat.{add-zero}
 use native.Mathlib.Omega.{arith}
 use Rattle.sha256.specs.Rolling.{Rolling}
-use borrow.Author.Needs.{needs}
 use Rattle.sha256.proofs.sixteen_rounds.Statement.{statement}
 use Rattle.sha256.proofs.sixteen_rounds.Tie as tie
 
