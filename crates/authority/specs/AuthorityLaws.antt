@@ -14,7 +14,7 @@ use Rattle.lists.specs.Bytes.{Bytes}
 use Rattle.lists.specs.Tests.{allOf}
 use Rattle.lists.specs.Chunks.{chunks}
 use Rattle.event.specs.declared.Grant.{Grant}
-use Rattle.event.specs.Fields.{kindOf, parentCount, parentIds, presentedOf, targetOf}
+use Rattle.event.specs.Fields.{kindOf, parentCount, parentIds, presentedOf, targetOf, parentId}
 use Rattle.model.specs.Events.{Id, Event, isCreate, isGrant}
 use Rattle.model.specs.Heights.{findIn, View, view, ancestor}
 use Rattle.model.specs.Verdicts.{givenBy, parentsSound as parentsSoundIn, presentedGrant, permits, targetSuits, soundFrom, sound}
@@ -24,7 +24,7 @@ use Rattle.model.specs.Store.{eventOf, heldIn}
 use Rattle.model.specs.Packing.{kind-other}
 use Rattle.store.specs.declared.Slot.the-variants.{At, Gap}
 use Rattle.store.specs.Tables.{slotIn}
-use Rattle.history.specs.Parents.{eventAt, parentId, placeBy}
+use Rattle.history.specs.Parents.{eventAt, placeBy}
 use Rattle.history.specs.LevelLaws.{level-from, bySlot, second-parent, third-parent, Later, creates, later, entry-some, entry-none, first-some, levels-heights}
 use Rattle.history.specs.Placed.{heldAt, idOf}
 use Rattle.authority.specs.Lines.{targetAt, Authority}
