@@ -70,17 +70,31 @@ const fn budget(call: &'static str, most: f64, aim: f64) -> Budget {
     Budget { call, most, aim }
 }
 
-const BUDGETS: [Budget; 9] = [
+/// The set with the longest ways along a line. The line walk takes a call a step, as document 01 asks, so the calls that
+/// walk have a budget of their own on it.
+const LONG_LINES: &str = "from the top";
+
+const BUDGETS: [Budget; 12] = [
     budget("one id", 1.05, 1.05),
     budget("256 ids", 0.5, 0.45),
     budget("take", 1.2, 0.6),
     budget("bundle", 1.2, 0.6),
     budget("look-up", 1.2, 0.6),
-    budget("order", 1.5, 0.7),
-    budget("verdict", 1.5, 0.7),
-    budget("map", 1.5, 0.7),
-    budget("write-out", 1.5, 0.7),
+    budget("order", 0.7, 0.7),
+    budget("verdict", 0.7, 0.7),
+    budget("map", 0.7, 0.7),
+    budget("write-out", 0.7, 0.7),
+    budget("order, long lines", 0.9, 0.9),
+    budget("verdict, long lines", 0.9, 0.9),
+    budget("map, long lines", 0.9, 0.9),
 ];
+
+/// The budget that a call is held to on a set, by its place.
+fn budget_of(call: &str, set: &str) -> usize {
+    let long = format!("{call}, long lines");
+    let own = BUDGETS.iter().position(|b| set == LONG_LINES && b.call == long);
+    own.or(BUDGETS.iter().position(|b| b.call == call)).expect("a call with a budget")
+}
 
 const REPETITIONS: usize = 301;
 
@@ -240,8 +254,7 @@ fn say<'a>(worst: &mut [Worst<'a>], call: &str, set: &'a str, p: Pair) {
     let (u, r, ratios) = (p.unit, p.reference, p.ratios());
     print!("{call:<9} {set:<18} unit {:>7.0} least {:>7.0}  reference {:>7.0} ", u.median, u.least, r.median);
     println!("least {:>7.0}  paired {:.3} leasts {:.3} medians {:.3}", r.least, ratios[2], ratios[1], ratios[0]);
-    let at = BUDGETS.iter().position(|b| b.call == call).expect("a call with a budget");
-    let w = &mut worst[at];
+    let w = &mut worst[budget_of(call, set)];
     if ratios[2] > w.ratios[2] {
         w.set = set;
     }
@@ -255,7 +268,7 @@ fn say_budgets(worst: &[Worst]) -> bool {
         let [medians, leasts, paired] = w.ratios;
         let met = if paired <= b.most { "met" } else { "NOT met" };
         let reached = if paired <= b.aim { "reached" } else { "not reached" };
-        print!("{:<9} budget {:.2}  paired {paired:.3} {met:<8} aim {:.2} {reached:<12}", b.call, b.most, b.aim);
+        print!("{:<19} budget {:.2}  paired {paired:.3} {met:<8} aim {:.2} {reached:<12}", b.call, b.most, b.aim);
         println!(" medians {medians:.3} leasts {leasts:.3}  worst set: {}", w.set);
     }
     BUDGETS.iter().zip(worst).all(|(b, w)| w.ratios[2] <= b.most)

@@ -4,3 +4,4 @@ pub mod Written
 pub mod Figures
 pub mod Trip
 pub mod Sums
+pub mod Case

@@ -1,4 +1,5 @@
 pub mod Told
 pub mod ThirdDemand
+pub mod Witness
 pub mod RoundTrip
 pub mod Sums

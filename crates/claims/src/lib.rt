@@ -5,12 +5,18 @@ ghost use mathlib.Core.Bool.{true};
 ghost use Rattle.lists.specs.Tests.{allOf};
 ghost use Rattle.model.specs.Examples.{checks};
 ghost use Rattle.claims.specs.ThirdDemand.{ThirdDemand};
+ghost use Rattle.claims.specs.Witness.{Witness};
 ghost use Rattle.claims.specs.RoundTrip.{RoundTrip};
 ghost use Rattle.claims.specs.Sums.{FiguresAddUp, JoinsAddUp, Check2Exact};
 
 // Two units, one create event, two lists of calls whose counted events make one set: equal answers, defined from the set.
 pub fn third_demand()
     ensures { λ _. ⌜ ThirdDemand ⌝ }
+{}
+
+// The premises of the third demand can be met, and then both units show a map with a cord.
+pub fn premises_can_be_met()
+    ensures { λ _. ⌜ Witness ⌝ }
 {}
 
 // A written bundle in a fresh unit gives the same events and, written again, the same bytes.
