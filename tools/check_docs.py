@@ -220,7 +220,7 @@ def check_table(document, specs, found):
         if said.get(file) != right:
             report(document, f"{file}: says {said.get(file)}, and it is {right} (lines to read, lines of the file)")
     last = re.search(r"\| all (\d+) files \| \| ([\d,]+) \| ([\d,]+) \|", read(document))
-    stated = tuple(number(digits) for digits in last.groups())
+    stated = tuple(number(digits) for digits in last.groups()) if last else None
     sums = (len(said), *(sum(column) for column in zip(*said.values())))
     if stated != sums:
         report(document, f"last row of the table: says {stated}, and the rows give {sums}")
@@ -232,7 +232,7 @@ def check_sentence(document, specs, opening, found):
     match = re.search(rf"{opening} (\d+) lines[^:]*: ((?:[^`;.]*\d+ of `[^`]+`)+)", text)
     said = {file: int(n) for n, file in re.findall(r"(\d+) of `([^`]+)`", match[2])} if match else {}
     right = {file: count(specs, found, file) for file in {f for f, _ in found}}
-    if said != right or int(match[1]) != sum(right.values()):
+    if not match or said != right or int(match[1]) != sum(right.values()):
         report(document, f"'{opening} N lines': says {said}, and it is {right}, {sum(right.values())} in all")
 
 
