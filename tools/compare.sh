@@ -1,6 +1,7 @@
 #!/bin/sh
-# The unit as a C library: builds it twice and compares the two archives byte for byte, builds and runs the examples in C,
-# and compares the calls with another implementation, with times and stack. Needs rt, gcc and cargo, and no network.
+# The documents, checked against the repository; then the unit as a C library: builds it twice and compares the two archives
+# byte for byte, builds and runs the examples in C, and compares the calls with another implementation, with times and stack.
+# Needs python3, rt, gcc and cargo, and no network.
 # A step that fails does not stop the others; the exit status is that of the last one that failed, or 0.
 set -eu
 
@@ -36,6 +37,7 @@ example() {
         "target/examples/$name" "$@"
 }
 
+step python3 tools/check_docs.py
 mkdir -p target/examples
 rm -f "$library" # an older archive is not taken for a new one
 step rt version

@@ -1,5 +1,5 @@
--- The second demand's last sentence: "A written bundle, taken by a fresh unit with the same create event, gives the same events
--- and, written again, the same bytes."
+-- The second demand's last sentence: "A bundle from a unit's write-out, taken by a unit freshly started with the same create
+-- event, gives that unit the same events, and writing them out again gives the same bytes."
 use Prim.Native.Nat.{ℕ, _+_, _-_, _*_, _≤_}
 use mathlib.Core.Path.{_≡_}
 use mathlib.Core.Bool.{true}
@@ -59,11 +59,11 @@ pub record Trip (m : Lent) (out again buffer : Bytes) : Type 0 where
   -- all events but the create event are new to it, and none is refused
   pub figures : bundleOf cordLimit (fresh m buffer .store) (fresh m buffer .count) (writtenBy m out) .answer
       ≡ value (record { new = m .count - 1; repeats = 1; refused = 0 })
-  -- it "gives the same events", each once
+  -- it "gives that unit the same events", each once
   pub same-count : taken m out buffer .count ≡ m .count
   pub same-events : SameMembers (heldBy (taken m out buffer)) (heldBy m)
   pub distinct : Distinct sha256 (heldBy (taken m out buffer))
-  -- "and, written again, the same bytes"
+  -- "and writing them out again gives the same bytes"
   pub written-again : writtenOf cordLimit (taken m out buffer .store) (taken m out buffer .count) again .answer
       ≡ value (writtenSize m)
   pub same-bytes : writtenBy (taken m out buffer) again ≡ writtenBy m out

@@ -1,7 +1,10 @@
--- The third demand: "Two units started with one create event and given any two lists of calls (takes and bundles of any bytes)
--- whose counted events make the same set, at most 256, no two sharing an id: equal order, verdicts, map and write-out, and those
--- are what document 01 defines from the set. Each cord's join is effective, under a line of grants back to the creator on which
--- rights never grow, and every effective revoke on that line has the join among its ancestors."
+-- The third demand: "Two units are started with one create event. Then each gets a list of calls of its own: single takes and
+-- bundles of any bytes, the refused ones included. An event counts where it is offered singly, or in a bundle that passes check
+-- 8, and itself passes checks 1 and 3 to 6. For every two such lists whose counted events make with the creator the same set, of
+-- at most 256 events, no two sharing an id, in whatever orders, bundles and repeats: after both lists the two units answer
+-- order, verdict, map and write-out alike, and their answers and written bytes are those that document 01 defines from that set.
+-- Each cord on the map was joined by an effective join, under a line of grants back to the creator. No grant on that line gives
+-- a right that the one above it lacked. Every effective revoke of a grant on that line has the join among its ancestors."
 use Prim.Native.Nat.{_≤_}
 use mathlib.Core.Path.{_≡_}
 use mathlib.Core.List.{List, _∷_, map, List·Memᴰ}
@@ -42,14 +45,14 @@ pub record Makes (creator : Bytes) (s : List Bytes) (u : Given) : Type 0 where
 -- all the premises. `s` lists the set, no two members with one id; counted events may come repeatedly. Nothing is said of the
 -- members' length or fields, nor of SHA-256.
 pub record Premises (creator : Bytes) (s : List Bytes) (u w : Given) : Type 0 where
-  -- "at most 256, no two sharing an id"
+  -- "of at most 256 events, no two sharing an id"
   pub at-most : length s ≤ 256
   pub distinct : Distinct sha256 s
-  -- "Two units started with one create event .. whose counted events make the same set"
+  -- "Two units are started with one create event. .. whose counted events make with the creator the same set"
   pub first : Makes creator s u
   pub second : Makes creator s w
 
--- "equal order, verdicts, map and write-out"
+-- "the two units answer order, verdict, map and write-out alike"
 pub record Equal (m n : Lent) : Type 0 where
   pub same-order : (out : Bytes) → orderOf cordLimit (m .store) (m .count) out ≡ orderOf cordLimit (n .store) (n .count) out
   pub same-verdicts : (id : Bytes) → length id ≡ 32
@@ -60,11 +63,12 @@ pub record Equal (m n : Lent) : Type 0 where
 -- the conclusion, for every output and every asked id
 pub record Agree (creator : Bytes) (s : List Bytes) (u w : Given) : Type 0 where
   pub equal : Equal (leaves creator u) (leaves creator w)
-  -- "and those are what document 01 defines from the set"
+  -- "and their answers and written bytes are those that document 01 defines from that set"
   pub first-tells : Tells s (leaves creator u)
   pub second-tells : Tells s (leaves creator w)
-  -- "Each cord's join is effective, under a line of grants back to the creator on which rights never grow, and every effective
-  -- revoke on that line has the join among its ancestors.": `RowBy`, of each row of the map
+  -- "Each cord on the map was joined by an effective join, under a line of grants back to the creator. No grant on that line gives
+  -- a right that the one above it lacked. Every effective revoke of a grant on that line has the join among its ancestors.":
+  -- `RowBy`, of each row of the map
   pub each-cord : (c : Cord) → List·Memᴰ c (mapRows (setView s)) → RowBy (map eventOf s) c
 
 abbrev pub ThirdDemand : Type 0
