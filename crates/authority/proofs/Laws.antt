@@ -1,16 +1,15 @@
 -- What the functions' answers come to, over plain values.
-use Prim.Native.Nat.{ℕ, zero, suc, _+_, _-_, _*_, _/_, _%_, _<_, _≤_}
+use Prim.Native.Nat.{ℕ, zero, suc, _+_, _-_, _*_, _<_, _≤_}
 use native.Mathlib.Omega.{arith}
 use mathlib.Core.Path.{_≡_, refl, sym, ap, _∙_}
-use mathlib.Core.Logic.{_⊎_, inl, inr, ⊎-elim}
+use mathlib.Core.Logic.{⊎-elim}
 use mathlib.Core.Bool.{Bool, true, false, not, _&&_, _||_}
 use mathlib.Core.Option.{none, some}
 use mathlib.Core.List.{List, List·Memᴰ, List·Memᴰ·not-nil}
 use lib.Dec.{eqb}
-use lib.ListN.{length, getD, take, set, length-set, replicate, length-replicate, getD-replicate}
+use lib.ListN.{length, getD, take, set, length-set}
 use lib.Seq.{getD-set-same, getD-set-other, take-all}
-use borrow.Author.Tests.{eq-eqb, ne-eqb, eqb-true, eqb-false, lt-ltb, le-ltb}
-use Rattle.lists.specs.Cases.{byBool}
+use borrow.Author.Tests.{eq-eqb, ne-eqb, lt-ltb, le-ltb}
 use Rattle.lists.specs.Bytes.{Bytes}
 use Rattle.lists.specs.Tests.{anyOf}
 use Rattle.lists.specs.Sorting.{mem-getD}
@@ -22,14 +21,13 @@ use Rattle.model.specs.Verdicts.{givenBy, has, within}
 use Rattle.history.specs.Parents.{eventAt, placeBy}
 use Rattle.history.specs.Order.{Ordered}
 use Rattle.history.specs.OrderLaws.{parents-listed}
-use Rattle.tables.specs.Filling.{zeros-all, more→, more←, last}
+use Rattle.tables.specs.Filling.{more→, more←, last}
 use Rattle.authority.specs.KindLaws.{Kind, creating, granting, revoking, joining, unplugging, kind-of}
 use Rattle.authority.specs.AuthorityLaws.{and-three}
-use Rattle.authority.specs.Lines.{ifAncestor, targetAt, lineFrom, Outside, Skip, Jump, JumpTable, Leads}
+use Rattle.authority.specs.Lines.{ifAncestor, targetAt, lineFrom}
 use Rattle.authority.specs.Sound.{grantAt, givenIn, rightFor, permitsAt, targetSuitsAt, parentsSound, soundAt, bit, SoundTable}
 use Rattle.authority.specs.declared.Presented.{Presented}
 use Rattle.authority.specs.declared.Presented.the-variants.{Gives, Nothing}
-use Rattle.authority.specs.declared.Step.{Step}
 
 -- ── the target of a revoke ──────────────────────────────────────────────────────────────────────────────────────────────
 
@@ -51,104 +49,28 @@ module _ (store ids : Bytes) (index M : List ℕ) (n k : ℕ) (x : Bytes) (event
 
 -- ── lines ───────────────────────────────────────────────────────────────────────────────────────────────────────────────
 
-pub line-none : (Q : List ℕ) (sought place left : ℕ) → left ≡ 0 → false ≡ anyOf (eqb sought) (lineFrom Q left place)
-unfolding lineFrom
-line-none Q sought place left e = rw e
-
--- p is what the place presents
-module _ (Q : List ℕ) (place p : ℕ) (presents : p ≡ getD Q place 0) (s : ℕ) where
-  line-end : (f : ℕ) → 256 ≤ p → anyOf (eqb s) (lineFrom Q f place) ≡ false
+module _ (Q : List ℕ) (sought place : ℕ) where
+  pub line-none : (left : ℕ) → left ≡ 0 → false ≡ anyOf (eqb sought) (lineFrom Q left place)
   unfolding lineFrom
-  line-end zero h = refl
-  line-end (suc f) h = rw (sym presents, le-ltb p 256 h)
+  line-none left e = rw e
 
-  line-on : (f : ℕ) → 1 ≤ f → p < 256 → anyOf (eqb s) (lineFrom Q f place) ≡ (eqb s p || anyOf (eqb s) (lineFrom Q (f - 1) p))
-  unfolding lineFrom
-  line-on zero l h = absurd (omega arith)
-  line-on (suc f) l h = let e : suc f - 1 ≡ f = omega arith in rw (sym presents, lt-ltb p 256 h, e)
+  -- p is what the place presents
+  module _ (p : ℕ) (presents : p ≡ getD Q place 0) where
+    pub line-end : (left : ℕ) → (left ≡ 0 → ⊥) → 256 ≤ p → false ≡ anyOf (eqb sought) (lineFrom Q left place)
+    unfolding lineFrom
+    line-end zero ne h = absurd (ne refl)
+    line-end (suc f) ne h = rw (sym presents, le-ltb p 256 h)
 
-module _ (Q T : List ℕ) where
-  skip-one : (k p : ℕ) → p ≡ getD Q k 0 → p < 256 → getD T p 0 < getD T k 0 → Skip Q T k p 1
-  skip-one k p presents low falls = record { lower = falls; passes = λ f s l o. line-on Q k p presents s f l low }
+    pub line-met : (left : ℕ) → (left ≡ 0 → ⊥) → p < 256 → sought ≡ p → true ≡ anyOf (eqb sought) (lineFrom Q left place)
+    unfolding lineFrom
+    line-met zero ne h e = absurd (ne refl)
+    line-met (suc f) ne h e = rw (sym presents, lt-ltb p 256 h, eq-eqb sought p e)
 
-  -- two jumps one behind the other: what no level in between has is not where they meet
-  skip-join : (k a j m l : ℕ) → Skip Q T k a m → Skip Q T a j l → Skip Q T k j (m + l)
-  skip-join k a j m l x y = record { lower = omega (arith, x .lower, y .lower); passes = both }
-    where
-      above : (s : ℕ) → Outside T k j s → Outside T k a s
-      above s = ⊎-elim (λ h. inl (omega (arith, h, y .lower))) inr
-
-      below : (s : ℕ) → Outside T k j s → Outside T a j s
-      below s = ⊎-elim inl (λ h. inr (omega (arith, h, x .lower)))
-
-      apart : (s : ℕ) → Outside T k j s → s ≡ a → ⊥
-      apart s o e =
-          let same = ap (λ (i : ℕ). getD T i 0) e in
-          ⊎-elim (λ h. omega (arith, h, same, y .lower)) (λ h. omega (arith, h, same, x .lower)) o
-
-      both : (f s : ℕ) → m + l ≤ f → Outside T k j s
-          → anyOf (eqb s) (lineFrom Q f k) ≡ (eqb s j || anyOf (eqb s) (lineFrom Q (f - (m + l)) j))
-      both f s h o =
-          let e : f - m - l ≡ f - (m + l) = omega arith in
-          let to : anyOf (eqb s) (lineFrom Q f k) ≡ anyOf (eqb s) (lineFrom Q (f - m) a) = x .passes f s (omega arith) (above s o) ∙ rw (ne-eqb s a (apart s o)) in
-          to ∙ y .passes (f - m) s (omega arith) (below s o) ∙ rw e
-
-  pub jump-none : (k : ℕ) → Jump Q T k 0
-  jump-none k h = absurd (omega (arith, h))
-
-  -- p is what place k presents, at a lower level
-  module _ (k p : ℕ) (presents : p ≡ getD Q k 0) (low : p < 256) (falls : getD T p 0 < getD T k 0) where
-    pub jump-one : Jump Q T k (256 + p)
-    jump-one h =
-        let to : (256 + p) % 256 ≡ p = omega arith in
-        let steps : (256 + p) / 256 ≡ 1 = omega arith in
-        rw (to, steps) (skip-one k p presents low falls)
-
-    pub jump-two : (J : List ℕ) → JumpTable Q T J → (v w : ℕ) → v ≡ getD J p 0 → w ≡ getD J (v % 256) 0 → 0 < v / 256 → 0 < w / 256
-        → Jump Q T k ((1 + v / 256 + w / 256) * 256 + w % 256)
-    jump-two J table v w first second lv lw h =
-        let to : ((1 + v / 256 + w / 256) * 256 + w % 256) % 256 ≡ w % 256 = omega arith in
-        let steps : ((1 + v / 256 + w / 256) * 256 + w % 256) / 256 ≡ 1 + v / 256 + w / 256 = omega arith in
-        let x : Skip Q T p (v % 256) (v / 256) = rw first (table .jump p (rw first at lv)) in
-        let y : Skip Q T (v % 256) (w % 256) (w / 256) = rw second (table .jump (v % 256) (rw second at lw)) in
-        rw (to, steps) (skip-join k (v % 256) (w % 256) (1 + v / 256) (w / 256) (skip-join k p (v % 256) 1 (v / 256) (skip-one k p presents low falls) x) y)
-
-  module _ (J : List ℕ) (table : JumpTable Q T J) where
-    -- v is the jump of the place
-    pub leads-far : (left sought place v : ℕ) → v ≡ getD J place 0 → 0 < v / 256 → v / 256 ≤ left → Outside T place (v % 256) sought
-        → Leads Q left sought place (record { place = v % 256; steps = v / 256 })
-    leads-far left sought place v e lv enough o =
-        let x : Skip Q T place (v % 256) (v / 256) = rw e (table .jump place (rw e at lv)) in
-        record { some = lv; enough = enough; on = λ h. x .passes left sought enough o; ends = λ h. absurd (omega (arith, h)) }
-
-    -- one entry more
-    pub jump-put : (k v : ℕ) → k < length J → Jump Q T k v → JumpTable Q T (set J k v)
-    jump-put k v inside new =
-        record {
-          jump = λ i. byBool (eqb i k)
-              (λ t. let e : i ≡ k = eqb-true i k t in rw (e, getD-set-same J k v 0 inside) new)
-              (λ f. rw (getD-set-other J k i v 0 (eqb-false i k f)) (table .jump i));
-        }
-
--- p is what the place presents
-pub leads-near : (Q : List ℕ) (left sought place p : ℕ) → p ≡ getD Q place 0 → 0 < left
-    → Leads Q left sought place (record { place = p; steps = 1 })
-leads-near Q left sought place p e h =
-    record { some = omega arith; enough = omega arith; on = λ l. line-on Q place p e sought left (omega arith) l; ends = λ l. line-end Q place p e sought left l }
-
-module _ (Q : List ℕ) (left sought place : ℕ) (r : Step) (leads : Leads Q left sought place r) (low : r .place < 256) where
-  pub line-met : sought ≡ r .place → true ≡ anyOf (eqb sought) (lineFrom Q left place)
-  line-met e = sym (leads .on low ∙ rw (eq-eqb sought (r .place) e))
-
-  pub line-passed : (sought ≡ r .place → ⊥)
-      → anyOf (eqb sought) (lineFrom Q (left - r .steps) (r .place)) ≡ anyOf (eqb sought) (lineFrom Q left place)
-  line-passed d = sym (leads .on low ∙ rw (ne-eqb sought (r .place) d))
-
-pub no-jumps : (n : ℕ) (Q T : List ℕ) → JumpTable Q T (replicate n 0)
-no-jumps n Q T =
-    let none : ℕ = 0 in
-    let zeros = zeros-all (replicate n none) (λ k h. getD-replicate n k none 0 (omega (arith, h, length-replicate n none))) in
-    record { jump = λ k. rw (zeros k) (jump-none Q T k) }
+    pub line-on : (left : ℕ) → (left ≡ 0 → ⊥) → p < 256 → (sought ≡ p → ⊥)
+        → anyOf (eqb sought) (lineFrom Q (left - 1) p) ≡ anyOf (eqb sought) (lineFrom Q left place)
+    unfolding lineFrom
+    line-on zero ne h d = absurd (ne refl)
+    line-on (suc f) ne h d = let e : suc f - 1 ≡ f = omega arith in rw (sym presents, lt-ltb p 256 h, ne-eqb sought p d, e)
 
 -- ── what a presented event gives ────────────────────────────────────────────────────────────────────────────────────────
 

@@ -1,7 +1,6 @@
 // Who may do what: the grant that each place presents, the target of each revoke, lines, and which places are sound.
 ghost use mathlib.Core.Path.{_≡_};
-ghost use mathlib.Core.Bool.{true};
-ghost use Prim.Native.Nat.{_+_, _/_, _<_, _≤_};
+ghost use Prim.Native.Nat.{_<_, _≤_};
 ghost use lib.Dec.{eqb};
 ghost use lib.ListN.{length, take};
 ghost use Rattle.lists.specs.Sorting.{Ascending};
@@ -10,7 +9,7 @@ ghost use Rattle.model.specs.Verdicts.{has, within};
 ghost use Rattle.store.specs.Tables.{idAt};
 ghost use Rattle.history.specs.Parents.{eventAt, placeBy};
 ghost use Rattle.history.specs.Order.{Ordered};
-ghost use Rattle.authority.specs.Lines.{ifAncestor, presentedAt, targetAt, lineFrom, Leads, Outside, Jump, JumpTable};
+ghost use Rattle.authority.specs.Lines.{ifAncestor, presentedAt, targetAt, lineFrom};
 ghost use Rattle.authority.specs.Sound.{PresentedTable, TargetTable, grantAt, givenIn, parentSound, parentsSound, rightFor, permitsAt, targetSuitsAt, soundAt, bit, SoundTable};
 use event::Grant;
 use store::Slot;
@@ -19,12 +18,6 @@ use store::Slot;
 pub enum Presented {
     Gives(Grant),
     Nothing,
-}
-
-// A place on a line, nearer the creator than the place asked, and the number of steps to it; 256 or more where the line ends.
-struct Step {
-    place: u16,
-    steps: u16,
 }
 
 // The 192 bytes at a place.
@@ -110,110 +103,22 @@ fn target_places(store: &[u8], n: u16, ids: &[u8], index: &[u16], rows: &[u64], 
     }
 }
 
-// Whether the walk that seeks a place may go from a place in `steps` steps to the place `to` at once: as many steps are left, and
-// the sought place has no level of those passed in between.
-fn may_jump(levels: &[u16], left: u16, sought: u16, place: u16, to: u16, steps: u16) -> bool
-    ensures { λ r. ⌜ (r ≡ true → (0 < steps) × (steps ≤ left) × Outside (now (levels .entry)) place to sought) ⌝ }
-{
-    if steps == 0 {
-        return false;
-    }
-    if left < steps {
-        return false;
-    }
-    let level = tables::entry(levels, sought);
-    if level <= tables::entry(levels, to) {
-        return true;
-    }
-    tables::entry(levels, place) <= level
-}
-
-// The next place of the walk: where the jump leads, or else what the place presents.
-fn next_step(
-    presented: &[u16],
-    levels: &[u16],
-    jumps: &[u16],
-    left: u16,
-    sought: u16,
-    place: u16,
-) -> Step
-    requires { ⌜ JumpTable (now presented) (now levels) (now jumps) × (0 < left) ⌝ }
-    ensures { λ r. ⌜ Leads (now (presented .entry)) left sought place r ⌝ }
-{
-    let jump = tables::entry(jumps, place);
-    let to = jump % 256;
-    let steps = jump / 256;
-    if may_jump(levels, left, sought, place, to, steps) {
-        return Step { place: to, steps };
-    }
-    Step {
-        place: tables::entry(presented, place),
-        steps: 1,
-    }
-}
-
-// Whether the sought place is on the line of a place: the question is passed to a place nearer the creator. `left` bounds the steps
-// to the creator and falls at each call.
-fn on_line(
-    presented: &[u16],
-    levels: &[u16],
-    jumps: &[u16],
-    left: u16,
-    sought: u16,
-    place: u16,
-) -> bool
-    requires { ⌜ JumpTable (now presented) (now levels) (now jumps) ⌝ }
+// Whether the sought place is on the line of a place: the question is passed to the place that it presents, one step nearer the
+// creator. `left` bounds the steps to the creator and falls at each call.
+fn on_line(presented: &[u16], left: u16, sought: u16, place: u16) -> bool
     ensures { λ r. ⌜ r ≡ anyOf (eqb sought) (lineFrom (now (presented .entry)) left place) ⌝ }
 {
     if left == 0 {
         return false;
     }
-    let next = next_step(presented, levels, jumps, left, sought, place);
-    let at = next.place;
-    let steps = next.steps;
-    if 256 <= at {
+    let p = tables::entry(presented, place);
+    if 256 <= p {
         return false;
     }
-    if sought == at {
+    if sought == p {
         return true;
     }
-    on_line(presented, levels, jumps, left - steps, sought, at)
-}
-
-// Whether two jumps have equal lengths, of which the sum and one more can be written as a jump's length.
-fn like_jumps(first: u16, second: u16) -> bool
-    ensures { λ r. ⌜ (r ≡ true → (0 < first / 256) × (0 < second / 256) × (first / 256 + second / 256 < 255)) ⌝ }
-{
-    let steps = first / 256;
-    if steps == 0 {
-        return false;
-    }
-    if 127 < steps {
-        return false;
-    }
-    second / 256 == steps
-}
-
-// The jump of a place, from those of the places above it: its number of steps × 256 + where it leads; 0 for none. Where the two
-// jumps from the presented place on are of one length, it is both of them and a step more, else one step. So a walk takes a number
-// of jumps that grows with the logarithm of the line's length.
-fn jump_from(presented: &[u16], levels: &[u16], jumps: &[u16], k: u16) -> u16
-    requires { ⌜ JumpTable (now presented) (now levels) (now jumps) ⌝ }
-    ensures { λ r. ⌜ Jump (now (presented .entry)) (now (levels .entry)) k r ⌝ }
-{
-    let p = tables::entry(presented, k);
-    if 256 <= p {
-        return 0;
-    }
-    if tables::entry(levels, k) <= tables::entry(levels, p) {
-        return 0;
-    }
-    let first = tables::entry(jumps, p);
-    let second = tables::entry(jumps, first % 256);
-    if !like_jumps(first, second) {
-        return 256 + p;
-    }
-    (1 + first / 256 + second / 256) * 256 + second % 256
+    on_line(presented, left - 1, sought, p)
 }
 
 // What the event at place p gives: the creator rights 7 to its author.
@@ -279,15 +184,7 @@ fn permits(e: &[u8], grant: Grant) -> bool
 }
 
 // Whether a revoke's target suits: an ancestor of kind grant, on whose line the presented place is. Another kind names none.
-fn target_suits(
-    store: &[u8],
-    levels: &[u16],
-    presented: &[u16],
-    targets: &[u16],
-    jumps: &[u16],
-    k: u16,
-) -> bool
-    requires { ⌜ JumpTable (now presented) (now levels) (now jumps) ⌝ }
+fn target_suits(store: &[u8], levels: &[u16], presented: &[u16], targets: &[u16], k: u16) -> bool
     ensures { λ r. ⌜ r ≡ targetSuitsAt (now (store .entry)) (now (levels .entry)) (now (presented .entry)) (now (targets .entry)) k ⌝ }
 {
     if octets::byte(event_at(store, k), 0) != 2 {
@@ -299,7 +196,7 @@ fn target_suits(
     }
     let left = tables::entry(levels, t);
     let sought = tables::entry(presented, k);
-    on_line(presented, levels, jumps, left, sought, t)
+    on_line(presented, left, sought, t)
 }
 
 // Whether the parent at place p is sound; 65535 stands for none.
@@ -328,11 +225,10 @@ fn sound_at(
     levels: &[u16],
     presented: &[u16],
     targets: &[u16],
-    jumps: &[u16],
     sound: &[u8],
     k: u16,
 ) -> u8
-    requires { ⌜ (k < 256) × JumpTable (now presented) (now levels) (now jumps) ⌝ }
+    requires { ⌜ k < 256 ⌝ }
     ensures { λ r. ⌜ r ≡ bit (soundAt (now (store .entry)) (now (parents .entry)) (now (levels .entry)) (now (presented .entry)) (now (targets .entry)) (now (sound .entry)) k) ⌝ }
 {
     if k == 0 {
@@ -345,7 +241,7 @@ fn sound_at(
         return 0;
     };
     let permitted = permits(event_at(store, k), grant);
-    let suits = target_suits(store, levels, presented, targets, jumps, k);
+    let suits = target_suits(store, levels, presented, targets, k);
     if permitted & suits { 1 } else { 0 }
 }
 
@@ -363,13 +259,10 @@ fn sound_places(
     ensures { λ _. ⌜ SoundTable (now (store .entry)) (now (parents .entry)) (now (levels .entry)) (now (presented .entry)) (now (targets .entry)) (now (order .entry)) (now (sound .exit)) ⌝ }
 {
     tables::clear_bytes(sound);
-    let mut jumps = [0u16; 256];
     let mut i = 0;
     while i < order.len() {
         let k = order[i];
-        let jump = jump_from(presented, levels, &jumps, k);
-        jumps[k as usize] = jump;
-        let s = sound_at(store, parents, levels, presented, targets, &jumps, sound, k);
+        let s = sound_at(store, parents, levels, presented, targets, sound, k);
         sound[k as usize] = s;
         i += 1;
     }
