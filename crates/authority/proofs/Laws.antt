@@ -1,282 +1,354 @@
 -- What the functions' answers come to, over plain values.
-use Prim.Native.Nat.{ℕ, zero, suc, _+_, _-_, _*_, _/_, _%_, _<_, _≤_}
+use Prim.Native.Nat.{ℕ, zero, suc, _+_, _-_, _*_, _<_, _≤_}
+use native.Mathlib.Nat.{div-zero}
+use native.Mathlib.Numerals.{add-one}
 use native.Mathlib.Omega.{arith}
-use mathlib.Core.Path.{_≡_, refl, sym, ap, _∙_}
-use mathlib.Core.Logic.{_⊎_, inl, inr, ⊎-elim}
+use mathlib.Core.Path.{_≡_, refl, sym, ap, ap₂, _∙_}
+use mathlib.Core.Logic.{⊎-elim}
 use mathlib.Core.Bool.{Bool, true, false, not, _&&_, _||_}
-use mathlib.Core.Option.{none, some}
-use mathlib.Core.List.{List, List·Memᴰ, List·Memᴰ·not-nil}
-use lib.Dec.{eqb}
-use lib.ListN.{length, getD, take, set, length-set, replicate, length-replicate, getD-replicate}
+use mathlib.Core.Option.{none}
+use mathlib.Core.List.{List, List·Memᴰ, List·Memᴰ·not-nil, Memᴰ·cast}
+use lib.Dec.{eqb, ltb}
+use lib.ListN.{length, getD, take, set, length-set}
 use lib.Seq.{getD-set-same, getD-set-other, take-all}
-use borrow.Author.Tests.{eq-eqb, ne-eqb, eqb-true, eqb-false, lt-ltb, le-ltb}
-use Rattle.lists.specs.Cases.{byBool}
+use borrow.Author.Tests.{eqb-true, eq-eqb, ne-eqb, ltb-true, lt-ltb, le-ltb}
 use Rattle.lists.specs.Bytes.{Bytes}
+use Rattle.lists.specs.Cases.{byBool, and→, or→}
 use Rattle.lists.specs.Tests.{anyOf}
 use Rattle.lists.specs.Sorting.{mem-getD}
-use Rattle.octets.specs.Octets.{byteAt}
+use Rattle.event.specs.declared.Body.{Body}
 use Rattle.event.specs.declared.Grant.{Grant}
-use Rattle.event.specs.Fields.{authorOf, targetOf}
-use Rattle.event.specs.Contents.{bodyOf}
-use Rattle.model.specs.Verdicts.{givenBy, has, within}
-use Rattle.history.specs.Parents.{eventAt, placeBy}
+use Rattle.event.specs.declared.Parsed.{Parsed}
+use Rattle.event.specs.Fields.{authorOf, presentedOf, targetOf}
+use Rattle.event.specs.Contents.{bodyOf, contentsOf}
+use Rattle.model.specs.Events.{grants, revokes}
+use Rattle.model.specs.Verdicts.{givenBy, has, within, rightFor, coversBody}
+use Rattle.store.specs.Tables.{slotIn}
+use Rattle.history.specs.Parents.{eventAt}
+use Rattle.history.specs.LevelLaws.{bySlot}
 use Rattle.history.specs.Order.{Ordered}
 use Rattle.history.specs.OrderLaws.{parents-listed}
-use Rattle.tables.specs.Filling.{zeros-all, more→, more←, last}
-use Rattle.authority.specs.KindLaws.{Kind, creating, granting, revoking, joining, unplugging, kind-of}
+use Rattle.tables.specs.Bits.{bitAt}
+use Rattle.tables.specs.Filling.{more→, more←, last}
+use Rattle.ancestry.specs.Ancestors.{fromParent, fromParents, AncestorRows}
 use Rattle.authority.specs.AuthorityLaws.{and-three}
-use Rattle.authority.specs.Lines.{ifAncestor, targetAt, lineFrom, Outside, Skip, Jump, JumpTable, Leads}
-use Rattle.authority.specs.Sound.{grantAt, givenIn, rightFor, permitsAt, targetSuitsAt, parentsSound, soundAt, bit, SoundTable}
+use Rattle.authority.specs.Found.{ancestorBy, ancestorPlace, givenFrom, presentedBy, presentedPlace, grantIn, targetBy, byAncestor, given-place}
+use Rattle.authority.specs.Lines.{lineFrom, lineOf}
+use Rattle.authority.specs.Sound.{PresentedTable, TargetTable, parentsSound, permitsBy, onLineOf, targetSuitsAt, soundAt, bit, SoundTable}
+use Rattle.authority.specs.declared.Ancestor.{Ancestor}
+use Rattle.authority.specs.declared.Ancestor.the-variants.{At, Nowhere}
+use Rattle.authority.specs.declared.Given.{Given}
 use Rattle.authority.specs.declared.Presented.{Presented}
 use Rattle.authority.specs.declared.Presented.the-variants.{Gives, Nothing}
-use Rattle.authority.specs.declared.Step.{Step}
 
--- ── the target of a revoke ──────────────────────────────────────────────────────────────────────────────────────────────
+-- ── what is found ───────────────────────────────────────────────────────────────────────────────────────────────────────
 
-module _ (store ids : Bytes) (index M : List ℕ) (n k : ℕ) (x : Bytes) (event : x ≡ eventAt store k) where
-  pub target-none : (byteAt x 0 ≡ 2 → ⊥) → 256 ≡ targetAt store n ids index M k
-  unfolding targetAt
-  target-none ne = rw (sym event, ne-eqb (byteAt x 0) 2 ne)
+-- e is what the bytes x say, which stand in y
+pub body-read : (e : Parsed) (x y : Bytes) → e ≡ contentsOf x → x ≡ y → e .body ≡ bodyOf y
+unfolding contentsOf
+body-read e x y read there = rw (read, there)
 
-  -- t is the place of the ancestor that is named, y the event there
-  module _ (t : ℕ) (id y : Bytes) (revokes : byteAt x 0 ≡ 2) (names : id ≡ targetOf x) (place : t ≡ ifAncestor M k (placeBy n ids index id))
-      (there : y ≡ eventAt store t) where
-    pub target-grant : byteAt y 0 ≡ 1 → t ≡ targetAt store n ids index M k
-    unfolding targetAt
-    target-grant e = rw (sym event, sym names, sym place, sym there, revokes, e)
+never : {A : Type 0} (p : ℕ) → Nowhere ≡ At p → A
+never p e = let z : _≡_ {A = ℕ} 0 1 = cc in absurd (omega arith)
 
-    pub target-other : (byteAt y 0 ≡ 1 → ⊥) → 256 ≡ targetAt store n ids index M k
-    unfolding targetAt
-    target-other ne = rw (sym event, sym names, sym place, sym there, revokes, ne-eqb (byteAt y 0) 1 ne)
+module _ (store ids : Bytes) (index M : List ℕ) (n k : ℕ) where
+  -- a is found by the presented id
+  module _ (id : Bytes) (presents : id ≡ presentedOf (eventAt store k)) (a : Ancestor) (finds : a ≡ ancestorBy n ids index M k id) where
+    pub presented-nothing : a ≡ Nowhere → Nothing ≡ presentedBy store n ids index M k
+    unfolding presentedBy
+    presented-nothing gone = rw (sym presents, sym finds, gone)
+
+    pub presented-given : (p : ℕ) (e : Parsed) (x : Bytes) → a ≡ At p → e ≡ contentsOf x → x ≡ eventAt store p
+        → givenFrom p (givenBy (e .author) (e .body)) ≡ presentedBy store n ids index M k
+    unfolding presentedBy contentsOf
+    presented-given p e x at read there = rw (sym presents, sym finds, at, read, there)
+
+  module _ (body : Body) (event : body ≡ bodyOf (eventAt store k)) where
+    pub target-none : revokes body ≡ false → Nowhere ≡ targetBy store n ids index M k
+    unfolding targetBy
+    target-none f = rw (sym event, f)
+
+    -- a is found by the id that a revoke names
+    module _ (r : revokes body ≡ true) (id : Bytes) (names : id ≡ targetOf (eventAt store k)) (a : Ancestor)
+        (finds : a ≡ ancestorBy n ids index M k id) where
+      pub target-nowhere : a ≡ Nowhere → Nowhere ≡ targetBy store n ids index M k
+      unfolding targetBy
+      target-nowhere gone = rw (sym event, r, sym names, sym finds, gone)
+
+      module _ (t : ℕ) (at : a ≡ At t) (kind : Body) (there : kind ≡ bodyOf (eventAt store t)) where
+        pub target-grant : grants kind ≡ true → At t ≡ targetBy store n ids index M k
+        unfolding targetBy
+        target-grant u = rw (sym event, r, sym names, sym finds, at, sym there, u)
+
+        pub target-other : grants kind ≡ false → Nowhere ≡ targetBy store n ids index M k
+        unfolding targetBy
+        target-other f = rw (sym event, r, sym names, sym finds, at, sym there, f)
+
+  -- ── what is found has its bit in the row ──────────────────────────────────────────────────────────────────────────────
+
+  ancestor-bit : (id : Bytes) (p : ℕ) → ancestorBy n ids index M k id ≡ At p → bitAt M k p ≡ true
+  ancestor-bit id p e =
+      bySlot (slotIn ids 0 (take n index) id)
+      (λ q f. byBool (bitAt M k q)
+      (λ t. let same : q ≡ p = at-same q p (rw (f, t) at e) in rw (sym same) t)
+      (λ u. never p (rw (f, u) at e)))
+      (λ g f. never p (rw f at e))
+    where
+      at-same : (q p : ℕ) → At q ≡ At p → q ≡ p
+      at-same q p e = cc
+
+  presented-bit : presentedPlace (presentedBy store n ids index M k) < 256 → bitAt M k (presentedPlace (presentedBy store n ids index M k)) ≡ true
+  unfolding presentedBy
+  presented-bit =
+      byAncestor (ancestorBy n ids index M k (presentedOf (eventAt store k)))
+      (λ p e. rw (e, given-place p (givenBy (authorOf (eventAt store p)) (bodyOf (eventAt store p)))) (λ h. ancestor-bit (presentedOf (eventAt store k)) p e))
+      (λ e. rw e (λ h. absurd (omega (arith, h))))
+
+  target-bit : (t : ℕ) → targetBy store n ids index M k ≡ At t → bitAt M k t ≡ true
+  unfolding targetBy
+  target-bit t =
+      byBool (revokes (bodyOf (eventAt store k)))
+      (λ r. byAncestor (ancestorBy n ids index M k (targetOf (eventAt store k)))
+      (λ p e. byBool (grants (bodyOf (eventAt store p)))
+      (λ u. rw (r, e, u) (λ f. ancestor-bit (targetOf (eventAt store k)) t (e ∙ f)))
+      (λ u. rw (r, e, u) (λ f. never t f)))
+      (λ e. rw (r, e) (λ f. never t f)))
+      (λ r. rw r (λ f. never t f))
 
 -- ── lines ───────────────────────────────────────────────────────────────────────────────────────────────────────────────
 
-pub line-none : (Q : List ℕ) (sought place left : ℕ) → left ≡ 0 → false ≡ anyOf (eqb sought) (lineFrom Q left place)
-unfolding lineFrom
-line-none Q sought place left e = rw e
-
--- p is what the place presents
-module _ (Q : List ℕ) (place p : ℕ) (presents : p ≡ getD Q place 0) (s : ℕ) where
-  line-end : (f : ℕ) → 256 ≤ p → anyOf (eqb s) (lineFrom Q f place) ≡ false
+module _ (Q : List ℕ) (sought place : ℕ) where
+  pub line-none : (left : ℕ) → left ≡ 0 → false ≡ anyOf (eqb sought) (lineFrom Q left place)
   unfolding lineFrom
-  line-end zero h = refl
-  line-end (suc f) h = rw (sym presents, le-ltb p 256 h)
+  line-none left e = rw e
 
-  line-on : (f : ℕ) → 1 ≤ f → p < 256 → anyOf (eqb s) (lineFrom Q f place) ≡ (eqb s p || anyOf (eqb s) (lineFrom Q (f - 1) p))
-  unfolding lineFrom
-  line-on zero l h = absurd (omega arith)
-  line-on (suc f) l h = let e : suc f - 1 ≡ f = omega arith in rw (sym presents, lt-ltb p 256 h, e)
+  -- p is what the place presents
+  module _ (p : ℕ) (presents : p ≡ getD Q place 0) where
+    pub line-end : (left : ℕ) → (left ≡ 0 → ⊥) → 256 ≤ p → false ≡ anyOf (eqb sought) (lineFrom Q left place)
+    unfolding lineFrom
+    line-end zero ne h = absurd (ne refl)
+    line-end (suc f) ne h = rw (sym presents, le-ltb p 256 h)
 
-module _ (Q T : List ℕ) where
-  skip-one : (k p : ℕ) → p ≡ getD Q k 0 → p < 256 → getD T p 0 < getD T k 0 → Skip Q T k p 1
-  skip-one k p presents low falls = record { lower = falls; passes = λ f s l o. line-on Q k p presents s f l low }
+    pub line-met : (left : ℕ) → (left ≡ 0 → ⊥) → p < 256 → sought ≡ p → true ≡ anyOf (eqb sought) (lineFrom Q left place)
+    unfolding lineFrom
+    line-met zero ne h e = absurd (ne refl)
+    line-met (suc f) ne h e = rw (sym presents, lt-ltb p 256 h, eq-eqb sought p e)
 
-  -- two jumps one behind the other: what no level in between has is not where they meet
-  skip-join : (k a j m l : ℕ) → Skip Q T k a m → Skip Q T a j l → Skip Q T k j (m + l)
-  skip-join k a j m l x y = record { lower = omega (arith, x .lower, y .lower); passes = both }
-    where
-      above : (s : ℕ) → Outside T k j s → Outside T k a s
-      above s = ⊎-elim (λ h. inl (omega (arith, h, y .lower))) inr
-
-      below : (s : ℕ) → Outside T k j s → Outside T a j s
-      below s = ⊎-elim inl (λ h. inr (omega (arith, h, x .lower)))
-
-      apart : (s : ℕ) → Outside T k j s → s ≡ a → ⊥
-      apart s o e =
-          let same = ap (λ (i : ℕ). getD T i 0) e in
-          ⊎-elim (λ h. omega (arith, h, same, y .lower)) (λ h. omega (arith, h, same, x .lower)) o
-
-      both : (f s : ℕ) → m + l ≤ f → Outside T k j s
-          → anyOf (eqb s) (lineFrom Q f k) ≡ (eqb s j || anyOf (eqb s) (lineFrom Q (f - (m + l)) j))
-      both f s h o =
-          let e : f - m - l ≡ f - (m + l) = omega arith in
-          let to : anyOf (eqb s) (lineFrom Q f k) ≡ anyOf (eqb s) (lineFrom Q (f - m) a) = x .passes f s (omega arith) (above s o) ∙ rw (ne-eqb s a (apart s o)) in
-          to ∙ y .passes (f - m) s (omega arith) (below s o) ∙ rw e
-
-  pub jump-none : (k : ℕ) → Jump Q T k 0
-  jump-none k h = absurd (omega (arith, h))
-
-  -- p is what place k presents, at a lower level
-  module _ (k p : ℕ) (presents : p ≡ getD Q k 0) (low : p < 256) (falls : getD T p 0 < getD T k 0) where
-    pub jump-one : Jump Q T k (256 + p)
-    jump-one h =
-        let to : (256 + p) % 256 ≡ p = omega arith in
-        let steps : (256 + p) / 256 ≡ 1 = omega arith in
-        rw (to, steps) (skip-one k p presents low falls)
-
-    pub jump-two : (J : List ℕ) → JumpTable Q T J → (v w : ℕ) → v ≡ getD J p 0 → w ≡ getD J (v % 256) 0 → 0 < v / 256 → 0 < w / 256
-        → Jump Q T k ((1 + v / 256 + w / 256) * 256 + w % 256)
-    jump-two J table v w first second lv lw h =
-        let to : ((1 + v / 256 + w / 256) * 256 + w % 256) % 256 ≡ w % 256 = omega arith in
-        let steps : ((1 + v / 256 + w / 256) * 256 + w % 256) / 256 ≡ 1 + v / 256 + w / 256 = omega arith in
-        let x : Skip Q T p (v % 256) (v / 256) = rw first (table .jump p (rw first at lv)) in
-        let y : Skip Q T (v % 256) (w % 256) (w / 256) = rw second (table .jump (v % 256) (rw second at lw)) in
-        rw (to, steps) (skip-join k (v % 256) (w % 256) (1 + v / 256) (w / 256) (skip-join k p (v % 256) 1 (v / 256) (skip-one k p presents low falls) x) y)
-
-  module _ (J : List ℕ) (table : JumpTable Q T J) where
-    -- v is the jump of the place
-    pub leads-far : (left sought place v : ℕ) → v ≡ getD J place 0 → 0 < v / 256 → v / 256 ≤ left → Outside T place (v % 256) sought
-        → Leads Q left sought place (record { place = v % 256; steps = v / 256 })
-    leads-far left sought place v e lv enough o =
-        let x : Skip Q T place (v % 256) (v / 256) = rw e (table .jump place (rw e at lv)) in
-        record { some = lv; enough = enough; on = λ h. x .passes left sought enough o; ends = λ h. absurd (omega (arith, h)) }
-
-    -- one entry more
-    pub jump-put : (k v : ℕ) → k < length J → Jump Q T k v → JumpTable Q T (set J k v)
-    jump-put k v inside new =
-        record {
-          jump = λ i. byBool (eqb i k)
-              (λ t. let e : i ≡ k = eqb-true i k t in rw (e, getD-set-same J k v 0 inside) new)
-              (λ f. rw (getD-set-other J k i v 0 (eqb-false i k f)) (table .jump i));
-        }
-
--- p is what the place presents
-pub leads-near : (Q : List ℕ) (left sought place p : ℕ) → p ≡ getD Q place 0 → 0 < left
-    → Leads Q left sought place (record { place = p; steps = 1 })
-leads-near Q left sought place p e h =
-    record { some = omega arith; enough = omega arith; on = λ l. line-on Q place p e sought left (omega arith) l; ends = λ l. line-end Q place p e sought left l }
-
-module _ (Q : List ℕ) (left sought place : ℕ) (r : Step) (leads : Leads Q left sought place r) (low : r .place < 256) where
-  pub line-met : sought ≡ r .place → true ≡ anyOf (eqb sought) (lineFrom Q left place)
-  line-met e = sym (leads .on low ∙ rw (eq-eqb sought (r .place) e))
-
-  pub line-passed : (sought ≡ r .place → ⊥)
-      → anyOf (eqb sought) (lineFrom Q (left - r .steps) (r .place)) ≡ anyOf (eqb sought) (lineFrom Q left place)
-  line-passed d = sym (leads .on low ∙ rw (ne-eqb sought (r .place) d))
-
-pub no-jumps : (n : ℕ) (Q T : List ℕ) → JumpTable Q T (replicate n 0)
-no-jumps n Q T =
-    let none : ℕ = 0 in
-    let zeros = zeros-all (replicate n none) (λ k h. getD-replicate n k none 0 (omega (arith, h, length-replicate n none))) in
-    record { jump = λ k. rw (zeros k) (jump-none Q T k) }
-
--- ── what a presented event gives ────────────────────────────────────────────────────────────────────────────────────────
-
-pub grant-nowhere : (store : Bytes) (p : ℕ) → 256 ≤ p → none ≡ grantAt store p
-unfolding grantAt
-grant-nowhere store p h = rw (le-ltb p 256 h)
-
--- x is the event at place p
-module _ (store : Bytes) (p : ℕ) (low : p < 256) (x : Bytes) (event : x ≡ eventAt store p) where
-  pub grant-creator : (a : ℕ) → byteAt x 0 ≡ 0 → a ≡ byteAt x 1 → some (record { rights = 7; subject = a }) ≡ grantAt store p
-  unfolding grantAt bodyOf
-  grant-creator a e q = rw (lt-ltb p 256 low, sym event, e, q)
-
-  pub grant-grant : (r a : ℕ) → byteAt x 0 ≡ 1 → r ≡ byteAt x 3 → a ≡ byteAt x 4 → some (record { rights = r; subject = a }) ≡ grantAt store p
-  unfolding grantAt bodyOf
-  grant-grant r a e q s = rw (lt-ltb p 256 low, sym event, e, q, s)
-
-  pub grant-other : (byteAt x 0 ≡ 0 → ⊥) → (byteAt x 0 ≡ 1 → ⊥) → none ≡ grantAt store p
-  unfolding grantAt
-  grant-other no-create no-grant = rw (lt-ltb p 256 low, sym event) (go (kind-of x))
-    where
-      go : Kind x → none ≡ givenBy (authorOf x) (bodyOf x)
-      go (creating e q) = absurd (no-create e)
-      go (granting e q) = absurd (no-grant e)
-      go (revoking e q) = rw q
-      go (joining a b c q) = rw q
-      go (unplugging a b c q) = rw q
+    pub line-on : (left : ℕ) → (left ≡ 0 → ⊥) → p < 256 → (sought ≡ p → ⊥)
+        → anyOf (eqb sought) (lineFrom Q (left - 1) p) ≡ anyOf (eqb sought) (lineFrom Q left place)
+    unfolding lineFrom
+    line-on zero ne h d = absurd (ne refl)
+    line-on (suc f) ne h d = let e : suc f - 1 ≡ f = omega arith in rw (sym presents, lt-ltb p 256 h, ne-eqb sought p d, e)
 
 -- ── rights ──────────────────────────────────────────────────────────────────────────────────────────────────────────────
+
+pub has-none : (r q : ℕ) → q ≡ 0 → false ≡ has r q
+has-none r q e = rw (e, div-zero r)
 
 pub within-is : (f g : ℕ) (a b c d e h : Bool) → a ≡ has f 1 → b ≡ has g 1 → c ≡ has f 2 → d ≡ has g 2 → e ≡ has f 4 → h ≡ has g 4
     → ((not a || b) && (not c || d) && (not e || h)) ≡ within f g
 unfolding within
 within-is f g a b c d e h p q r s t u = rw (sym p, sym q, sym r, sym s, sym t, sym u) (and-three (not a || b) (not c || d) (not e || h))
 
-pub permits-is : (x : Bytes) (g : Grant) (kind author rights right : ℕ) (a b : Bool) → kind ≡ byteAt x 0 → author ≡ byteAt x 1
-    → rights ≡ byteAt x 3 → right ≡ rightFor kind → a ≡ has (g .rights) right → b ≡ within rights (g .rights)
-    → (eqb (g .subject) author && a && (not (eqb kind 1) || b)) ≡ permitsAt x g
-unfolding permitsAt
-permits-is x g kind author rights right a b p q r s t u = rw (t, u, s, p, q, r)
+pub permits-is : (author : ℕ) (body : Body) (g : Grant) (a b : Bool) (right : ℕ) → right ≡ rightFor body → a ≡ has (g .rights) right
+    → b ≡ coversBody g body → (eqb (g .subject) author && a && b) ≡ permitsBy author body g
+unfolding permitsBy
+permits-is author body g a b right asked allowed covers = rw (allowed, asked, covers)
 
 -- ── a revoke's target ───────────────────────────────────────────────────────────────────────────────────────────────────
 
-module _ (store : Bytes) (T Q G : List ℕ) (k : ℕ) (x : Bytes) (event : x ≡ eventAt store k) where
-  pub suits-other : (byteAt x 0 ≡ 2 → ⊥) → true ≡ targetSuitsAt store T Q G k
+module _ (T Q : List ℕ) (body : Body) (p : ℕ) (target : Ancestor) where
+  pub suits-other : revokes body ≡ false → true ≡ targetSuitsAt T Q body p target
   unfolding targetSuitsAt
-  suits-other ne = rw (sym event, ne-eqb (byteAt x 0) 2 ne)
+  suits-other f = rw f
 
-  -- t is the target
-  module _ (e : byteAt x 0 ≡ 2) (t : ℕ) (names : t ≡ getD G k 0) where
-    pub suits-none : 256 ≤ t → false ≡ targetSuitsAt store T Q G k
+  module _ (r : revokes body ≡ true) where
+    pub suits-none : target ≡ Nowhere → false ≡ targetSuitsAt T Q body p target
     unfolding targetSuitsAt
-    suits-none h = rw (sym event, e, sym names, le-ltb t 256 h)
+    suits-none e = rw (r, e)
 
-    pub suits-line : (left sought : ℕ) → t < 256 → left ≡ getD T t 0 → sought ≡ getD Q k 0
-        → anyOf (eqb sought) (lineFrom Q left t) ≡ targetSuitsAt store T Q G k
+    pub suits-line : (t left : ℕ) → target ≡ At t → left ≡ getD T t 0 → anyOf (eqb p) (lineFrom Q left t) ≡ targetSuitsAt T Q body p target
     unfolding targetSuitsAt
-    suits-line left sought h p q = rw (sym event, e, sym names, lt-ltb t 256 h, p, q)
+    suits-line t left e l = rw (r, e, l)
 
 -- ── soundness ───────────────────────────────────────────────────────────────────────────────────────────────────────────
 
-module _ (store : Bytes) (P T Q G S : List ℕ) (k : ℕ) where
-  pub sound-first : k ≡ 0 → 1 ≡ bit (soundAt store P T Q G S k)
+module _ (store : Bytes) (P T Q S : List ℕ) (k : ℕ) (found : Presented) (target : Ancestor) where
+  pub sound-first : k ≡ 0 → 1 ≡ bit (soundAt store P T Q S k found target)
   unfolding soundAt
   sound-first e = rw e
 
   module _ (ne : k ≡ 0 → ⊥) where
-    pub sound-orphan : parentsSound P S k ≡ false → 0 ≡ bit (soundAt store P T Q G S k)
+    pub sound-orphan : parentsSound P S k ≡ false → 0 ≡ bit (soundAt store P T Q S k found target)
     unfolding soundAt
     sound-orphan f = rw (ne-eqb k 0 ne, f)
 
-    -- p is the presented place, r what the event there gives
-    module _ (parents : parentsSound P S k ≡ true) (p : ℕ) (r : Presented) (presents : p ≡ getD Q k 0) (gives : givenIn r ≡ grantAt store p) where
-      presented : grantAt store (getD Q k 0) ≡ givenIn r
-      presented = ap (grantAt store) (sym presents) ∙ sym gives
-
-      pub sound-bare : r ≡ Nothing → 0 ≡ bit (soundAt store P T Q G S k)
+    module _ (parents : parentsSound P S k ≡ true) where
+      pub sound-bare : grantIn found ≡ none → 0 ≡ bit (soundAt store P T Q S k found target)
       unfolding soundAt
-      sound-bare e = rw (ne-eqb k 0 ne, parents, presented, e)
+      sound-bare e = rw (ne-eqb k 0 ne, parents, e)
 
-      pub sound-by : (g : Grant) (x : Bytes) (a b : Bool) → r ≡ Gives g → x ≡ eventAt store k → a ≡ permitsAt x g
-          → b ≡ targetSuitsAt store T Q G k → bit (a && b) ≡ bit (soundAt store P T Q G S k)
-      unfolding soundAt
-      sound-by g x a b e event permitted suits = rw (ne-eqb k 0 ne, parents, presented, e, permitted, event, suits)
+      -- e is what the event at place k says
+      pub sound-by : (given : Given) (e : Parsed) (x : Bytes) (a b : Bool) → found ≡ Gives given → e ≡ contentsOf x → x ≡ eventAt store k
+          → a ≡ permitsBy (e .author) (e .body) (given .grant) → b ≡ targetSuitsAt T Q (e .body) (given .place) target
+          → bit (a && b) ≡ bit (soundAt store P T Q S k found target)
+      unfolding soundAt contentsOf
+      sound-by given e x a b gives read there permitted suits =
+          rw (ne-eqb k 0 ne, parents, gives, permitted, suits, read, there)
 
--- ── the table of sound places, place by place ───────────────────────────────────────────────────────────────────────────
+-- ── ancestors of listed places are listed before them ───────────────────────────────────────────────────────────────────
 
--- another entry written leaves what is said of a place whose parents do not stand there
-sound-keep : (store : Bytes) (P T Q G S : List ℕ) (k q v : ℕ) → ((j : ℕ) → j < 3 → getD P (k * 3 + j) 0 ≡ q → ⊥)
-    → soundAt store P T Q G S k ≡ soundAt store P T Q G (set S q v) k
-unfolding soundAt parentsSound
-sound-keep store P T Q G S k q v apart =
+module _ (P l M : List ℕ) (ordered : Ordered P l) (rows : AncestorRows P l M) where
+  -- those of the place at index i, where it holds of the places before it
+  ancestor-behind : (i p : ℕ) → i < length l → ((r : ℕ) → List·Memᴰ r (take i l) → bitAt M r p ≡ true → List·Memᴰ p (take i l))
+      → bitAt M (getD l i 0) p ≡ true → List·Memᴰ p (take i l)
+  unfolding fromParents
+  ancestor-behind i p h before t =
+      ⊎-elim
+      (λ u. ⊎-elim
+      (λ v. parent 0 (omega arith) (rw first v))
+      (λ v. parent 1 (omega arith) v)
+      (or→ (fromParent M (getD P (k * 3) 0) p) (fromParent M (getD P (k * 3 + 1) 0) p) u))
+      (λ v. parent 2 (omega arith) v)
+      (or→ (fromParent M (getD P (k * 3) 0) p || fromParent M (getD P (k * 3 + 1) 0) p) (fromParent M (getD P (k * 3 + 2) 0) p)
+      (sym (rows .row k p (mem-getD l i 0 h)) ∙ t))
+    where
+      k : ℕ
+      k = getD l i 0
+
+      first : k * 3 + 0 ≡ k * 3
+      first = omega arith
+
+      parent : (j : ℕ) → j < 3 → fromParent M (getD P (k * 3 + j) 0) p ≡ true → List·Memᴰ p (take i l)
+      parent j lj v =
+          let r = getD P (k * 3 + j) 0 in
+          let w = and→ (ltb r 256) (eqb r p || bitAt M r p) v in
+          let m = ordered .behind i j h lj (ltb-true r 256 (w .0)) in
+          ⊎-elim
+          (λ e. Memᴰ·cast (sym (eqb-true r p e)) m)
+          (λ u. before r m u)
+          (or→ (eqb r p) (bitAt M r p) (w .1))
+
+  ancestor-before : (i k p : ℕ) → i ≤ length l → List·Memᴰ k (take i l) → bitAt M k p ≡ true → List·Memᴰ p (take i l)
+  ancestor-before zero k p h m t = absurd (List·Memᴰ·not-nil m)
+  ancestor-before (suc i) k p h m t =
+      rw (← add-one i)
+      (more← l i h p
+      (⊎-elim
+      (λ early. ancestor-before i k p (omega arith) early t)
+      (λ (e : k ≡ getD l i 0). ancestor-behind i p h (λ r. ancestor-before i r p (omega arith)) (rw e at t))
+      (more→ l i h k (rw (← add-one i) at m))))
+
+  -- one and the same for the first i places and for the next
+  pub listed-before : (i k p : ℕ) → i < length l → List·Memᴰ k (take (i + 1) l) → bitAt M k p ≡ true → List·Memᴰ p (take i l)
+  listed-before i k p h m t =
+      ⊎-elim
+      (λ early. ancestor-before i k p (omega arith) early t)
+      (λ (e : k ≡ getD l i 0). ancestor-behind i p h (λ r. ancestor-before i r p (omega arith)) (rw e at t))
+      (more→ l i h k m)
+
+-- what is presented and what is named stands before
+pub record Behind (l : List ℕ) (found : ℕ → Presented) (target : ℕ → Ancestor) : Type 0 where
+  pub presents : (i k : ℕ) → i < length l → List·Memᴰ k (take (i + 1) l) → presentedPlace (found k) < 256
+      → List·Memᴰ (presentedPlace (found k)) (take i l)
+  pub names : (i k t : ℕ) → i < length l → List·Memᴰ k (take (i + 1) l) → target k ≡ At t → List·Memᴰ t (take i l)
+
+pub behind : (store ids : Bytes) (index P l M : List ℕ) (n : ℕ) → Ordered P l → AncestorRows P l M
+    → Behind l (presentedBy store n ids index M) (targetBy store n ids index M)
+behind store ids index P l M n ordered rows =
+    record {
+      presents = λ i k h m low. listed-before P l M ordered rows i k (presentedPlace (presentedBy store n ids index M k)) h m (presented-bit store ids index M n k low);
+      names = λ i k t h m e. listed-before P l M ordered rows i k t h m (target-bit store ids index M n k t e);
+    }
+
+-- ── the tables, place by place ──────────────────────────────────────────────────────────────────────────────────────────
+
+-- a line that an entry is not on stays when the entry is written
+line-keep : (Q m : List ℕ) (q v : ℕ) → (List·Memᴰ q m → ⊥) → ((k : ℕ) → List·Memᴰ k m → getD Q k 0 < 256 → List·Memᴰ (getD Q k 0) m)
+    → (f k : ℕ) → List·Memᴰ k m → lineFrom Q f k ≡ lineFrom (set Q q v) f k
+unfolding lineFrom
+line-keep Q m q v out up zero k in-m = refl
+line-keep Q m q v out up (suc f) k in-m =
+    rw (getD-set-other Q q k v 0 (λ e. out (Memᴰ·cast (sym e) in-m)))
+    (byBool (ltb (getD Q k 0) 256)
+    (λ t. rw (t, line-keep Q m q v out up f (getD Q k 0) (up k in-m (ltb-true (getD Q k 0) 256 t))))
+    (λ g. rw g))
+
+on-keep : (T Q N : List ℕ) (p : ℕ) (a : Ancestor) → ((t : ℕ) → a ≡ At t → lineOf Q T t ≡ lineOf N T t) → onLineOf T Q p a ≡ onLineOf T N p a
+on-keep T Q N p (At t) same = rw (same t refl)
+on-keep T Q N p Nowhere same = refl
+
+-- other entries written leave what is said of a place whose parents, and whose target's line, do not stand there
+sound-keep : (store : Bytes) (P T Q S N : List ℕ) (k q v : ℕ) (found : Presented) (target : Ancestor)
+    → ((j : ℕ) → j < 3 → getD P (k * 3 + j) 0 ≡ q → ⊥) → ((t : ℕ) → target ≡ At t → lineOf Q T t ≡ lineOf N T t)
+    → soundAt store P T Q S k found target ≡ soundAt store P T N (set S q v) k found target
+unfolding soundAt parentsSound targetSuitsAt
+sound-keep store P T Q S N k q v found target apart same =
     let zero-column : k * 3 + 0 ≡ k * 3 = omega arith in
     let first = getD-set-other S q (getD P (k * 3) 0) v 0 (rw zero-column at (apart 0 (omega arith))) in
     let second = getD-set-other S q (getD P (k * 3 + 1) 0) v 0 (apart 1 (omega arith)) in
     let third = getD-set-other S q (getD P (k * 3 + 2) 0) v 0 (apart 2 (omega arith)) in
-    rw (first, second, third)
+    rw (first, second, third, on-keep T Q N (presentedPlace found) target same)
 
 -- after the first i listed places
-pub record Done (store : Bytes) (P T Q G l S : List ℕ) (i : ℕ) : Type 0 where
+pub record Done (store : Bytes) (P T l : List ℕ) (found : ℕ → Presented) (target : ℕ → Ancestor) (Q G S : List ℕ) (i : ℕ) : Type 0 where
+  pub ordered : Ordered P l
+  pub before : Behind l found target
+  pub long-presented : length Q ≡ 256
+  pub long-targets : length G ≡ 256
   pub long : length S ≡ 256
   pub within : i ≤ length l
-  pub made : (k : ℕ) → List·Memᴰ k (take i l) → getD S k 0 ≡ bit (soundAt store P T Q G S k)
+  pub presents : (k : ℕ) → List·Memᴰ k (take i l) → getD Q k 0 ≡ presentedPlace (found k)
+  pub names : (k : ℕ) → List·Memᴰ k (take i l) → getD G k 0 ≡ ancestorPlace (target k)
+  pub made : (k : ℕ) → List·Memᴰ k (take i l) → getD S k 0 ≡ bit (soundAt store P T Q S k (found k) (target k))
   pub rest : (k : ℕ) → (List·Memᴰ k (take i l) → ⊥) → getD S k 0 ≡ 0
 
-pub listed-low : (P l : List ℕ) (i : ℕ) → Ordered P l → i < length l → getD l i 0 < 256
-listed-low P l i ordered inside = ordered .low (getD l i 0) (mem-getD l i 0 inside)
-
-module _ (store : Bytes) (P T Q G l : List ℕ) where
-  pub done-none : (S : List ℕ) → length S ≡ 256 → ((k : ℕ) → getD S k 0 ≡ 0) → Done store P T Q G l S 0
-  done-none S e zeros =
+module _ (store : Bytes) (P T l : List ℕ) (found : ℕ → Presented) (target : ℕ → Ancestor) where
+  pub done-none : (Q G S : List ℕ) → Ordered P l → Behind l found target → length Q ≡ 256 → length G ≡ 256 → length S ≡ 256 → ((k : ℕ) → getD S k 0 ≡ 0)
+      → Done store P T l found target Q G S 0
+  done-none Q G S order before q g e zeros =
       record {
+        ordered = order;
+        before = before;
+        long-presented = q;
+        long-targets = g;
         long = e;
         within = omega arith;
+        presents = λ k m. absurd (List·Memᴰ·not-nil m);
+        names = λ k m. absurd (List·Memᴰ·not-nil m);
         made = λ k m. absurd (List·Memᴰ·not-nil m);
         rest = λ k m. zeros k;
       }
 
-  pub done-all : (S : List ℕ) (i : ℕ) → length l ≤ i → Done store P T Q G l S i → SoundTable store P T Q G l S
-  done-all S i h d =
-      let all : take i l ≡ l = take-all i l h in
-      record { made = λ k m. d .made k (rw all m); rest = λ k m. d .rest k (λ y. m (rw all at y)) }
+  module _ (Q G S : List ℕ) (i : ℕ) (h : length l ≤ i) (d : Done store P T l found target Q G S i) where
+    all : (k : ℕ) → List·Memᴰ k l → List·Memᴰ k (take i l)
+    all k m = rw (take-all i l h) m
 
-  module _ (S : List ℕ) (i v : ℕ) (ordered : Ordered P l) (d : Done store P T Q G l S i) (inside : i < length l)
-      (value : v ≡ bit (soundAt store P T Q G S (getD l i 0))) where
+    pub done-presented : PresentedTable found l Q
+    done-presented = record { entry = λ k m. d .presents k (all k m) }
+
+    pub done-targets : TargetTable target l G
+    done-targets = record { entry = λ k m. d .names k (all k m) }
+
+    pub done-sound : SoundTable store P T Q found target l S
+    done-sound = record { made = λ k m. d .made k (all k m); rest = λ k m. d .rest k (λ y. m (rw (take-all i l h) at y)) }
+
+  pub next-low : {Q G S : List ℕ} {i : ℕ} → Done store P T l found target Q G S i → i < length l → getD l i 0 < 256
+  next-low {i = i} d inside = d .ordered .low (getD l i 0) (mem-getD l i 0 inside)
+
+  -- the next place, f found for what it presents and a for what it names
+  module _ (Q G S : List ℕ) (i p t v : ℕ) (f : Presented) (a : Ancestor) (d : Done store P T l found target Q G S i) (inside : i < length l)
+      (finds : f ≡ found (getD l i 0)) (aims : a ≡ target (getD l i 0)) (presented : p ≡ presentedPlace f)
+      (named : t ≡ ancestorPlace a) (value : v ≡ bit (soundAt store P T Q S (getD l i 0) f a)) where
+    abbrev this : ℕ
+    this = getD l i 0
+
     -- the place is new
     new : List·Memᴰ (getD l i 0) (take i l) → ⊥
-    new = ordered .once i inside
+    new = d .ordered .once i inside
+
+    low : getD l i 0 < 256
+    low = next-low d inside
 
     abbrev earlier : (q : ℕ) → List·Memᴰ q (take i l) → List·Memᴰ q (take (i + 1) l)
     earlier = more← l i inside
@@ -287,26 +359,49 @@ module _ (store : Bytes) (P T Q G l : List ℕ) where
     byPlace : {A : Type 0} (q : ℕ) → List·Memᴰ q (take (i + 1) l) → (List·Memᴰ q (take i l) → A) → (q ≡ getD l i 0 → A) → A
     byPlace q m old this = ⊎-elim old this (more→ l i inside q m)
 
+    -- one entry more of a table
+    entry-more : (f : ℕ → ℕ) (A : List ℕ) (w : ℕ) → length A ≡ 256 → ((k : ℕ) → List·Memᴰ k (take i l) → getD A k 0 ≡ f k)
+        → w ≡ f (getD l i 0) → (k : ℕ) → List·Memᴰ k (take (i + 1) l) → getD (set A (getD l i 0) w) k 0 ≡ f k
+    entry-more f A w long filled e q m =
+        byPlace q m
+        (λ r. getD-set-other A this q w 0 (λ z. new (Memᴰ·cast (sym z) r)) ∙ filled q r)
+        (λ (z : q ≡ getD l i 0). rw z (getD-set-same A this w 0 (omega (arith, low, long)) ∙ e))
+
     -- the parents of what is listed so far stand before the place
     parent-before : (q : ℕ) → List·Memᴰ q (take (i + 1) l) → (j : ℕ) → j < 3 → getD P (q * 3 + j) 0 < 256
         → List·Memᴰ (getD P (q * 3 + j) 0) (take i l)
     parent-before q m j lj lp =
         byPlace q m
-        (λ r. parents-listed P l ordered i (d .within) q j r lj lp)
-        (λ (e : q ≡ getD l i 0). rw e (ordered .behind i j inside lj (rw e at lp)))
+        (λ r. parents-listed P l (d .ordered) i (d .within) q j r lj lp)
+        (λ (e : q ≡ getD l i 0). rw e (d .ordered .behind i j inside lj (rw e at lp)))
 
-    kept : (q : ℕ) → List·Memᴰ q (take (i + 1) l) → soundAt store P T Q G S q ≡ soundAt store P T Q G (set S (getD l i 0) v) q
+    -- what is presented by a place before the new one stands before it, too
+    up : (k : ℕ) → List·Memᴰ k (take i l) → getD Q k 0 < 256 → List·Memᴰ (getD Q k 0) (take i l)
+    up k m lk = let e = d .presents k m in Memᴰ·cast e (d .before .presents i k inside (earlier k m) (rw e at lk))
+
+    kept : (q : ℕ) → List·Memᴰ q (take (i + 1) l)
+        → soundAt store P T Q S q (found q) (target q) ≡ soundAt store P T (set Q (getD l i 0) p) (set S (getD l i 0) v) q (found q) (target q)
     kept q m =
-        sound-keep store P T Q G S q (getD l i 0) v
-        (λ j lj e. new (rw e at (parent-before q m j lj (rw e (listed-low P l i ordered inside)))))
+        sound-keep store P T Q S (set Q this p) q this v (found q) (target q)
+        (λ j lj e. new (rw e at (parent-before q m j lj (rw e low))))
+        (λ r e. line-keep Q (take i l) this p new up (getD T r 0) r (d .before .names i q r inside m e))
 
-    pub done-more : Done store P T Q G l (set S (getD l i 0) v) (i + 1)
+    said : v ≡ bit (soundAt store P T Q S (getD l i 0) (found (getD l i 0)) (target (getD l i 0)))
+    said = value ∙ ap₂ (λ (x : Presented) (y : Ancestor). bit (soundAt store P T Q S this x y)) finds aims
+
+    pub done-more : Done store P T l found target (set Q (getD l i 0) p) (set G (getD l i 0) t) (set S (getD l i 0) v) (i + 1)
     done-more =
         record {
-          long = length-set S (getD l i 0) v ∙ d .long;
+          ordered = d .ordered;
+          before = d .before;
+          long-presented = length-set Q this p ∙ d .long-presented;
+          long-targets = length-set G this t ∙ d .long-targets;
+          long = length-set S this v ∙ d .long;
           within = omega arith;
-          made = λ q m. byPlace q m
-              (λ r. getD-set-other S (getD l i 0) q v 0 (λ e. new (rw e at r)) ∙ d .made q r ∙ ap bit (kept q m))
-              (λ (e : q ≡ getD l i 0). rw e (getD-set-same S (getD l i 0) v 0 (omega (arith, listed-low P l i ordered inside, d .long)) ∙ value ∙ ap bit (kept (getD l i 0) here)));
-          rest = λ q m. getD-set-other S (getD l i 0) q v 0 (λ e. m (rw e here)) ∙ d .rest q (λ r. m (earlier q r));
+          presents = entry-more (λ k. presentedPlace (found k)) Q p (d .long-presented) (d .presents) (presented ∙ ap presentedPlace finds);
+          names = entry-more (λ k. ancestorPlace (target k)) G t (d .long-targets) (d .names) (named ∙ ap ancestorPlace aims);
+          made =
+              λ q m. entry-more (λ k. bit (soundAt store P T Q S k (found k) (target k))) S v (d .long) (d .made) said q m
+              ∙ ap bit (kept q m);
+          rest = λ q m. getD-set-other S this q v 0 (λ e. m (Memᴰ·cast e here)) ∙ d .rest q (λ r. m (earlier q r));
         }

@@ -2,42 +2,68 @@
 use Prim.Native.Nat.{ℕ, zero, suc, _+_, _*_, _<_, _≤_}
 use native.Mathlib.Omega.{arith}
 use mathlib.Core.Path.{_≡_, refl, sym, ap, ap₂, _∙_}
-use mathlib.Core.Logic.{⊎-elim}
 use mathlib.Core.Bool.{Bool, true, false, _&&_, and-true, and-false, and-assoc}
 use mathlib.Core.Option.{Option, none, some}
 use mathlib.Core.List.{List, List·Memᴰ, List·Memᴰ·head, List·Memᴰ·tail}
 use lib.Dec.{eqb}
 use lib.ListN.{getD, take, drop, List·getD-eq-default}
-use borrow.Author.Tests.{eqb-true, eqb-false, ne-eqb, lt-ltb}
+use borrow.Author.Tests.{eqb-true, eqb-false, ne-eqb}
 use Rattle.lists.specs.Cases.{maybe, byBool, clash}
 use Rattle.lists.specs.Bytes.{Bytes}
 use Rattle.lists.specs.Tests.{allOf}
 use Rattle.lists.specs.Chunks.{chunks}
 use Rattle.event.specs.declared.Grant.{Grant}
-use Rattle.event.specs.Fields.{kindOf, parentCount, parentIds, presentedOf, targetOf, parentId}
-use Rattle.model.specs.Events.{Id, Event, isCreate, isGrant}
+use Rattle.event.specs.declared.Body.{Body}
+use Rattle.event.specs.declared.Body.the-variants.{Create as create, Grant as grant, Revoke as revoke, Join as join, Unplug as unplug}
+use Rattle.event.specs.Fields.{parentCount, parentIds, parentId}
+use Rattle.model.specs.Events.{Id, Event, creates as createsBody, revokes, isCreate, isGrant, isRevoke}
 use Rattle.model.specs.Heights.{findIn, View, view, ancestor}
-use Rattle.model.specs.Verdicts.{givenBy, parentsSound as parentsSoundIn, presentedGrant, permits, targetSuits, soundFrom, sound}
+use Rattle.model.specs.Verdicts.{givenBy, parentsSound as parentsSoundIn, presentedGrant, toAuthor, hasRight, permits, targetSuits, soundFrom, sound}
 use Rattle.model.specs.HeightLaws.{height→, settled→}
-use Rattle.model.specs.SoundLaws.{sound-settled, sound-law, sound-creator, sound→}
+use Rattle.model.specs.SoundLaws.{SoundBy, sound-settled, sound-law, sound-creator, sound→}
 use Rattle.model.specs.Store.{eventOf, heldIn}
 use Rattle.model.specs.Packing.{kind-other}
-use Rattle.store.specs.declared.Slot.the-variants.{At, Gap}
+use Rattle.store.specs.declared.Slot.the-variants.{At as Held, Gap}
 use Rattle.store.specs.Tables.{slotIn}
 use Rattle.history.specs.Parents.{eventAt, placeBy}
 use Rattle.history.specs.LevelLaws.{level-from, bySlot, second-parent, third-parent, Later, creates, later, entry-some, entry-none, first-some, levels-heights}
 use Rattle.history.specs.Placed.{heldAt, idOf}
-use Rattle.authority.specs.Lines.{targetAt, Authority}
-use Rattle.authority.specs.Sound.{grantAt, parentSound, parentsSound, permitsAt, targetSuitsAt, soundAt, bit-test, SoundTable}
-use Rattle.authority.specs.PlaceLaws.{Tables, AncestorAt, NoAncestor, Named, Unnamed, few, found, place-at, level-is, settled-at, level-of, presented-place, lines, target-place, target-is}
-use Rattle.authority.specs.KindLaws.{revoke-kind, permits-kind}
+use Rattle.authority.specs.declared.Ancestor.{Ancestor}
+use Rattle.authority.specs.declared.Presented.{Presented}
+use Rattle.authority.specs.Found.{ancestorPlace, presentedBy, presentedPlace, grantIn, targetBy, given-place, given-grant}
+use Rattle.authority.specs.Lines.{Authority}
+use Rattle.authority.specs.Sound.{parentSound, parentsSound, permitsBy, targetSuitsAt, soundAt, bit-test, SoundTable}
+use Rattle.authority.specs.PlaceLaws.{
+  Tables,
+  AncestorAt,
+  few,
+  found,
+  place-at,
+  level-is,
+  settled-at,
+  level-of,
+  byPresented,
+  presented-place,
+  lines,
+  byTarget,
+  target-is,
+}
 
 -- three tests, as a list's tests are put together
 pub and-three : (a b c : Bool) → (a && b && c) ≡ (a && (b && (c && true)))
 and-three a b c = rw (and-true c) (and-assoc a b c)
 
+-- a revoke is no create
+pub revoke-other : (b : Body) → revokes b ≡ true → createsBody b ≡ false
+revoke-other create t = clash false t refl
+revoke-other (grant g) t = refl
+revoke-other revoke t = refl
+revoke-other (join c) t = refl
+revoke-other (unplug a) t = refl
+
 module _ {entry : ℕ → ℕ → ℕ} {store : Bytes} {n : ℕ} {ids : Bytes} {index P T M Q G : List ℕ} (tables : Tables entry store n ids index P T M Q G)
-    (S l : List ℕ) (sounding : SoundTable store P T Q G l S) (all-in : (k : ℕ) → k < n → (getD T k 0 ≡ 0 → ⊥) → List·Memᴰ k l)
+    (S l : List ℕ) (sounding : SoundTable store P T Q (presentedBy store n ids index M) (targetBy store n ids index M) l S)
+    (all-in : (k : ℕ) → k < n → (getD T k 0 ≡ 0 → ⊥) → List·Memᴰ k l)
     (only-settled : (k : ℕ) → List·Memᴰ k l → getD T k 0 ≡ 0 → ⊥) where
   abbrev held : List Event
   held = heldIn store n
@@ -73,7 +99,7 @@ module _ {entry : ℕ → ℕ → ℕ} {store : Bytes} {n : ℕ} {ids : Bytes} {
             let here = level-from (getD T k 0) (w .0) (level-is tables k h ∙ w .1) in
             ((λ z. omega (arith, below, z)), omega (arith, below, here, u .2))
 
-        at : (p : ℕ) → slotIn ids 0 (take n index) a ≡ At p → parentSound S (placeBy n ids index a) ≡ sound seen a
+        at : (p : ℕ) → slotIn ids 0 (take n index) a ≡ Held p → parentSound S (placeBy n ids index a) ≡ sound seen a
         at p e =
             let place = place-at tables a p e in
             rw (e, ne-eqb p 65535 (λ z. omega (arith, few tables, place .0, z))) (right p (place .0) (rw e at (level .1)) ∙ ap (sound seen) (place .1))
@@ -125,49 +151,61 @@ module _ {entry : ℕ → ℕ → ℕ} {store : Bytes} {n : ℕ} {ids : Bytes} {
             let z : ⊥ = omega (arith, later-at k h not-first .parents-to) in
             absurd z
 
-    -- what is presented permits the event, where it is an ancestor; else nothing does
-    granted : AncestorAt store n k (heldAt store k .presented) (getD Q k 0)
-        → maybe false (permitsAt (eventAt store k)) (grantAt store (getD Q k 0)) ≡ maybe false (permits (heldAt store k)) (presentedGrant seen (heldAt store k))
-    unfolding presentedGrant grantAt eventOf
-    granted w = rw (w .is-ancestor, event, lt-ltb (getD Q k 0) 256 (omega (arith, few tables, w .inside))) (go (givenBy (heldAt store (getD Q k 0) .author) (heldAt store (getD Q k 0) .body)))
-      where
-        event : findIn held (heldAt store k .presented) ≡ some (heldAt store (getD Q k 0))
-        event = ap (findIn held) (sym (w .id-is)) ∙ found tables (getD Q k 0) (w .inside)
+    -- what P gives, by places and in the model
+    permitted : (g : Grant) → permits (heldAt store k) g ≡ permitsBy (heldAt store k .author) (heldAt store k .body) g
+    unfolding permits toAuthor hasRight permitsBy
+    permitted g = refl
 
-        go : (o : Option Grant) → maybe false (permitsAt (eventAt store k)) o ≡ maybe false (permits (heldAt store k)) o
-        go none = refl
-        go (some g) = sym (permits-kind (eventAt store k) (later-at k h not-first .no-create) g)
-
-    not-granted : NoAncestor store n k (heldAt store k .presented) (getD Q k 0)
-        → (grantAt store (getD Q k 0) ≡ none) × (presentedGrant seen (heldAt store k) ≡ none)
-    unfolding presentedGrant grantAt
-    not-granted w = (rw (w .no-place), rw (w .none-such))
+    granted : (p : ℕ) → AncestorAt store n k (heldAt store k .presented) p
+        → presentedGrant seen (heldAt store k) ≡ givenBy (heldAt store p .author) (heldAt store p .body)
+    unfolding presentedGrant
+    granted p w = rw (w .is-ancestor, ap (findIn held) (sym (w .id-is)) ∙ found tables p (w .inside))
 
     -- the conditions by places are the model's
-    conditions : (parentsSound P S k && maybe false (permitsAt (eventAt store k)) (grantAt store (getD Q k 0)) && targetSuitsAt store T Q G k)
-        ≡ (parentsSoundIn (sound seen) (heldAt store k) && maybe false (permits (heldAt store k)) (presentedGrant seen (heldAt store k)) && targetSuits seen (heldAt store k))
-    conditions =
-        ⊎-elim
-        (λ w. ap₂ _&&_ (ap₂ _&&_ parents-are (granted w)) (sym (target-is tables k h s w)))
-        (λ w.
-        let no = not-granted w in
-        rw (no .0, no .1, and-false (parentsSound P S k), and-false (parentsSoundIn (sound seen) (heldAt store k))))
-        (presented-place tables k h s)
+    abbrev byPlaces : Presented → Ancestor → Bool
+    byPlaces f t =
+        parentsSound P S k
+        && maybe false (permitsBy (heldAt store k .author) (heldAt store k .body)) (grantIn f)
+        && targetSuitsAt T Q (heldAt store k .body) (presentedPlace f) t
 
-    other-row : soundAt store P T Q G S k ≡ sound seen (idOf store k)
-    unfolding soundAt soundFrom
+    abbrev conditions : Bool
+    conditions =
+        parentsSoundIn (sound seen) (heldAt store k)
+        && maybe false (permits (heldAt store k)) (presentedGrant seen (heldAt store k))
+        && targetSuits seen (heldAt store k)
+
+    conditions-are : byPlaces (presentedBy store n ids index M k) (targetBy store n ids index M k) ≡ conditions
+    unfolding presentedGrant
+    conditions-are =
+        byPresented tables k h s
+        (λ p e w.
+        rw (e, given-place p (gives p), given-grant p (gives p), granted p w)
+        (ap₂ _&&_ (ap₂ _&&_ parents-are (same (gives p))) (sym (target-is tables k p h s w))))
+        (λ e f. rw (e, f, and-false (parentsSound P S k), and-false (parentsSoundIn (sound seen) (heldAt store k))))
+      where
+        gives : ℕ → Option Grant
+        gives p = givenBy (heldAt store p .author) (heldAt store p .body)
+
+        same : (o : Option Grant)
+            → maybe false (permitsBy (heldAt store k .author) (heldAt store k .body)) o ≡ maybe false (permits (heldAt store k)) o
+        same none = refl
+        same (some g) = sym (permitted g)
+
+    other-row : soundAt store P T Q S k (presentedBy store n ids index M k) (targetBy store n ids index M k) ≡ sound seen (idOf store k)
+    unfolding soundAt soundFrom eventOf
     other-row =
         rw (ne-eqb k 0 not-first, sound-law held (idOf store k) (heldAt store k) (found tables k h) (settled-at tables k h s), no-create)
-        conditions
+        conditions-are
 
   row : (k : ℕ) → k < n → Settled k → ((q : ℕ) → q < n → getD T q 0 < getD T k 0 → Right q) → Right k
   unfolding soundAt
   row k h s right =
       ap (λ (v : ℕ). eqb v 1) (sounding .made k (all-in k h s))
-      ∙ bit-test (soundAt store P T Q G S k)
+      ∙ bit-test (soundAt store P T Q S k (presentedBy store n ids index M k) (targetBy store n ids index M k))
       ∙ byBool (eqb k 0) first (λ f. other-row k h s (eqb-false k 0 f) right)
     where
-      first : eqb k 0 ≡ true → soundAt store P T Q G S k ≡ sound seen (idOf store k)
+      first : eqb k 0 ≡ true
+          → soundAt store P T Q S k (presentedBy store n ids index M k) (targetBy store n ids index M k) ≡ sound seen (idOf store k)
       first t =
           let e : k ≡ 0 = eqb-true k 0 t in
           let c : isCreate (heldAt store k) ≡ true = rw e (creates entry store n (tables .good) ids index (tables .indexed)) in
@@ -192,39 +230,31 @@ module _ {entry : ℕ → ℕ → ℕ} {store : Bytes} {n : ℕ} {ids : Bytes} {
       (λ t. waits k h (eqb-true (getD T k 0) 0 t))
       (λ g. row k h (eqb-false (getD T k 0) 0 g) (λ q lq lt. rows f q (omega arith) lq))
 
+  conditions-of : (k : ℕ) → k < n → isCreate (heldAt store k) ≡ false → sound seen (idOf store k) ≡ true → SoundBy seen (heldAt store k)
+  conditions-of k h other t = sound→ held (idOf store k) (heldAt store k) (found tables k h) other t
+
   presents-at : (k : ℕ) → k < n → (k ≡ 0 → ⊥) → sound seen (idOf store k) ≡ true
-      → (getD Q k 0 < n) × (presentedOf (eventAt store k) ≡ idOf store (getD Q k 0))
-  unfolding eventOf
-  presents-at k h not-first t = ⊎-elim at gone (presented-place tables k h (sound-level k h t))
-    where
-      at : AncestorAt store n k (heldAt store k .presented) (getD Q k 0) → (getD Q k 0 < n) × (presentedOf (eventAt store k) ≡ idOf store (getD Q k 0))
-      at w = (w .inside, sym (w .id-is))
+      → (getD Q k 0 < n) × (heldAt store k .presented ≡ idOf store (getD Q k 0))
+  presents-at k h not-first t =
+      byPresented tables k h (sound-level k h t)
+      (λ p e w. rw (presented-place tables k p h (sound-level k h t) e) (w .inside, sym (w .id-is)))
+      (λ e f.
+      let other = kind-other (eventAt store k) (later-at k h not-first .no-create) in
+      clash (ancestor seen (idOf store k) (heldAt store k .presented)) (conditions-of k h other t .presents-ancestor) f)
 
-      gone : NoAncestor store n k (heldAt store k .presented) (getD Q k 0) → (getD Q k 0 < n) × (presentedOf (eventAt store k) ≡ idOf store (getD Q k 0))
-      gone w =
-          let other = kind-other (eventAt store k) (later-at k h not-first .no-create) in
-          let c = sound→ held (idOf store k) (heldAt store k) (found tables k h) other t in
-          clash (ancestor seen (idOf store k) (heldAt store k .presented)) (c .presents-ancestor) (w .none-such)
+  names-at : (k : ℕ) → k < n → isRevoke (heldAt store k) ≡ true → sound seen (idOf store k) ≡ true
+      → (getD G k 0 < n) × (heldAt store k .target ≡ idOf store (getD G k 0))
+  names-at k h r t =
+      byTarget tables k h (sound-level k h t) r
+      (λ q e u. rw (tables .names k h (sound-level k h t) ∙ ap ancestorPlace e) (u .named .inside, sym (u .named .id-is)))
+      (λ e f.
+      let c = conditions-of k h (revoke-other (heldAt store k .body) r) t .target-suits r in
+      clash (ancestor seen (idOf store k) (heldAt store k .target) && maybe false isGrant (findIn held (heldAt store k .target)))
+      (rw (c .target-ancestor, c .target-found, c .target-grants)) f)
 
-  names-at : (k : ℕ) → k < n → kindOf (eventAt store k) ≡ 2 → sound seen (idOf store k) ≡ true
-      → (getD G k 0 < n) × (targetOf (eventAt store k) ≡ idOf store (getD G k 0))
-  unfolding eventOf
-  names-at k h e t = ⊎-elim at gone (target-place tables k h (sound-level k h t) e)
-    where
-      at : Named store n k (getD G k 0) → (getD G k 0 < n) × (targetOf (eventAt store k) ≡ idOf store (getD G k 0))
-      at u = (u .named .inside, sym (u .named .id-is))
-
-      gone : Unnamed store n k (getD G k 0) → (getD G k 0 < n) × (targetOf (eventAt store k) ≡ idOf store (getD G k 0))
-      gone u =
-          let other = kind-other (eventAt store k) (rw e) in
-          let c = sound→ held (idOf store k) (heldAt store k) (found tables k h) other t .target-suits (revoke-kind (eventAt store k) ∙ rw e) in
-          clash (ancestor seen (idOf store k) (heldAt store k .target) && maybe false isGrant (findIn held (heldAt store k .target)))
-          (rw (c .target-ancestor, c .target-found, c .target-grants))
-          (u .refused)
-
-  no-target-at : (k : ℕ) → k < n → (kindOf (eventAt store k) ≡ 2 → ⊥) → getD G k 0 ≡ 256
-  unfolding targetAt
-  no-target-at k h ne = tables .names .entry k h ∙ rw (ne-eqb (kindOf (eventAt store k)) 2 ne)
+  no-target-at : (k : ℕ) → k < n → isRevoke (heldAt store k) ≡ false → sound seen (idOf store k) ≡ true → getD G k 0 ≡ 256
+  unfolding targetBy eventOf
+  no-target-at k h f t = tables .names k h (sound-level k h t) ∙ rw f
 
   -- from the tables of a good store, `order` holding the settled places and no others
   pub authority : Authority store n T Q G S

@@ -1,5 +1,5 @@
+pub mod Found
 pub mod Lines
 pub mod Sound
-pub mod KindLaws
 pub mod PlaceLaws
 pub mod AuthorityLaws

@@ -1,39 +1,19 @@
--- Presented grants, targets and lines by places. M holds the rows of ancestors, Q the presented places, G the targets, S which
--- places are sound (1), T the levels and J the jumps.
-use Prim.Native.Nat.{ℕ, zero, suc, _-_, _/_, _%_, _<_, _≤_}
+-- Lines by places. Q is the table of presented places, G that of targets, S says which places are sound (1), T is the table of levels.
+use Prim.Native.Nat.{ℕ, zero, suc, _<_}
 use mathlib.Core.Path.{_≡_}
-use mathlib.Core.Logic.{_⊎_}
-use mathlib.Core.Bool.{true, false, _&&_, _||_, cond}
+use mathlib.Core.Bool.{true, false, cond}
 use mathlib.Core.List.{List, [], _∷_, map}
 use lib.Dec.{eqb, ltb}
 use lib.ListN.{getD}
 use Rattle.lists.specs.Bytes.{Bytes}
-use Rattle.lists.specs.Tests.{anyOf}
-use Rattle.event.specs.Fields.{kindOf, presentedOf, targetOf}
+use Rattle.model.specs.Events.{isRevoke}
 use Rattle.model.specs.Heights.{view}
 use Rattle.model.specs.Verdicts.{line, sound}
 use Rattle.model.specs.Store.{heldIn}
-use Rattle.history.specs.Parents.{eventAt, placeBy}
-use Rattle.history.specs.Placed.{idOf}
-use Rattle.tables.specs.Bits.{bitAt}
-use Rattle.authority.specs.declared.Step.{Step}
-
--- p where it is an ancestor of k, else 256, which is no place
-abbrev pub ifAncestor : List ℕ → ℕ → ℕ → ℕ
-ifAncestor M k p = cond (bitAt M k p) p 256
-
--- the place of the ancestor whose id place k presents
-unfoldable pub presentedAt : Bytes → ℕ → Bytes → List ℕ → List ℕ → ℕ → ℕ
-presentedAt store n ids index M k = ifAncestor M k (placeBy n ids index (presentedOf (eventAt store k)))
-
--- the place of the ancestor of kind grant that the revoke at place k names
-unfoldable pub targetAt : Bytes → ℕ → Bytes → List ℕ → List ℕ → ℕ → ℕ
-targetAt store n ids index M k =
-    let t = ifAncestor M k (placeBy n ids index (targetOf (eventAt store k))) in
-    cond (eqb (kindOf (eventAt store k)) 2 && eqb (kindOf (eventAt store t)) 1) t 256
+use Rattle.history.specs.Placed.{heldAt, idOf}
 
 -- the places above k, in at most f steps: the presented one, then the one that it presents, up to the creator; Q has an entry for
--- every place
+-- every place of the line
 unfoldable pub lineFrom : List ℕ → ℕ → ℕ → List ℕ
 lineFrom Q zero k = []
 lineFrom Q (suc f) k = cond (ltb (getD Q k 0) 256) (getD Q k 0 ∷ lineFrom Q f (getD Q k 0)) []
@@ -42,39 +22,14 @@ lineFrom Q (suc f) k = cond (ltb (getD Q k 0) 256) (getD Q k 0 ∷ lineFrom Q f 
 abbrev pub lineOf : List ℕ → List ℕ → ℕ → List ℕ
 lineOf Q T k = lineFrom Q (getD T k 0) k
 
--- the level of s is none of those between the levels of k and j: j's or lower, or k's or higher
-abbrev pub Outside : List ℕ → ℕ → ℕ → ℕ → Type 0
-Outside T k j s = (getD T s 0 ≤ getD T j 0) ⊎ (getD T k 0 ≤ getD T s 0)
-
--- j stands on the line of k in m steps, and the levels fall from k to j: for a place that has no level in between, the question
--- whether it is on the line of k passes to j
-pub record Skip (Q T : List ℕ) (k j m : ℕ) : Type 0 where
-  pub lower : getD T j 0 < getD T k 0
-  pub passes : (f s : ℕ) → m ≤ f → Outside T k j s
-      → anyOf (eqb s) (lineFrom Q f k) ≡ (eqb s j || anyOf (eqb s) (lineFrom Q (f - m) j))
-
--- v is the jump of place k: steps × 256 + where it leads; none where it has no steps
-abbrev pub Jump : List ℕ → List ℕ → ℕ → ℕ → Type 0
-Jump Q T k v = 0 < v / 256 → Skip Q T k (v % 256) (v / 256)
-
-pub record JumpTable (Q T J : List ℕ) : Type 0 where
-  pub jump : (k : ℕ) → Jump Q T k (getD J k 0)
-
--- where a step of the walk leads: the line goes on there, or it ends
-pub record Leads (Q : List ℕ) (left sought place : ℕ) (r : Step) : Type 0 where
-  pub some : 0 < r .steps
-  pub enough : r .steps ≤ left
-  pub on : r .place < 256
-      → anyOf (eqb sought) (lineFrom Q left place) ≡ (eqb sought (r .place) || anyOf (eqb sought) (lineFrom Q (left - r .steps) (r .place)))
-  pub ends : 256 ≤ r .place → anyOf (eqb sought) (lineFrom Q left place) ≡ false
-
 -- the tables say what the model says of the events held
 pub record Authority (store : Bytes) (n : ℕ) (T Q G S : List ℕ) : Type 0 where
   pub sound-is : (k : ℕ) → k < n → eqb (getD S k 0) 1 ≡ sound (view (heldIn store n)) (idOf store k)
   pub line-is : (k : ℕ) → k < n → sound (view (heldIn store n)) (idOf store k) ≡ true
       → line (view (heldIn store n)) (idOf store k) ≡ map (idOf store) (lineOf Q T k)
   pub presents : (k : ℕ) → k < n → (k ≡ 0 → ⊥) → sound (view (heldIn store n)) (idOf store k) ≡ true
-      → (getD Q k 0 < n) × (presentedOf (eventAt store k) ≡ idOf store (getD Q k 0))
-  pub names : (k : ℕ) → k < n → kindOf (eventAt store k) ≡ 2 → sound (view (heldIn store n)) (idOf store k) ≡ true
-      → (getD G k 0 < n) × (targetOf (eventAt store k) ≡ idOf store (getD G k 0))
-  pub no-target : (k : ℕ) → k < n → (kindOf (eventAt store k) ≡ 2 → ⊥) → getD G k 0 ≡ 256
+      → (getD Q k 0 < n) × (heldAt store k .presented ≡ idOf store (getD Q k 0))
+  pub names : (k : ℕ) → k < n → isRevoke (heldAt store k) ≡ true → sound (view (heldIn store n)) (idOf store k) ≡ true
+      → (getD G k 0 < n) × (heldAt store k .target ≡ idOf store (getD G k 0))
+  pub no-target : (k : ℕ) → k < n → isRevoke (heldAt store k) ≡ false → sound (view (heldIn store n)) (idOf store k) ≡ true
+      → getD G k 0 ≡ 256

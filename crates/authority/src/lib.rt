@@ -1,30 +1,52 @@
-// Who may do what: the grant that each place presents, the target of each revoke, lines, and which places are sound.
+// Who may do what: the ancestor that each event presents and what it gives, the target of each revoke, lines, and which places are
+// sound.
 ghost use mathlib.Core.Path.{_≡_};
-ghost use mathlib.Core.Bool.{true};
-ghost use Prim.Native.Nat.{_+_, _/_, _<_, _≤_};
+ghost use Prim.Native.Nat.{_<_, _≤_};
 ghost use lib.Dec.{eqb};
 ghost use lib.ListN.{length, take};
 ghost use Rattle.lists.specs.Sorting.{Ascending};
 ghost use Rattle.lists.specs.Tests.{anyOf};
-ghost use Rattle.model.specs.Verdicts.{has, within};
+ghost use Rattle.model.specs.Events.{grants, revokes};
+ghost use Rattle.model.specs.Verdicts.{givenBy, has, within, rightFor, coversBody};
 ghost use Rattle.store.specs.Tables.{idAt};
-ghost use Rattle.history.specs.Parents.{eventAt, placeBy};
+ghost use Rattle.history.specs.Parents.{eventAt};
 ghost use Rattle.history.specs.Order.{Ordered};
-ghost use Rattle.authority.specs.Lines.{ifAncestor, presentedAt, targetAt, lineFrom, Leads, Outside, Jump, JumpTable};
-ghost use Rattle.authority.specs.Sound.{PresentedTable, TargetTable, grantAt, givenIn, parentSound, parentsSound, rightFor, permitsAt, targetSuitsAt, soundAt, bit, SoundTable};
+ghost use Rattle.ancestry.specs.Ancestors.{AncestorRows};
+ghost use Rattle.authority.specs.Found.{ancestorBy, ancestorPlace, givenFrom, presentedBy, presentedPlace, targetBy};
+ghost use Rattle.authority.specs.Lines.{lineFrom};
+ghost use Rattle.authority.specs.Sound.{
+  PresentedTable,
+  TargetTable,
+  parentSound,
+  parentsSound,
+  permitsBy,
+  targetSuitsAt,
+  soundAt,
+  bit,
+  SoundTable,
+};
+use event::Body;
 use event::Grant;
+use event::Parsed;
 use store::Slot;
 
-// What a presented event gives: a grant, or nothing.
-pub enum Presented {
-    Gives(Grant),
-    Nothing,
+// An ancestor, looked for by its id.
+pub enum Ancestor {
+    At(u16),
+    Nowhere,
 }
 
-// A place on a line, nearer the creator than the place asked, and the number of steps to it; 256 or more where the line ends.
-struct Step {
-    place: u16,
-    steps: u16,
+// What P gives, and the place where it stands.
+pub struct Given {
+    pub place: u16,
+    pub grant: Grant,
+}
+
+// What an event presents: an ancestor that gives a grant, another ancestor, or no ancestor.
+pub enum Presented {
+    Gives(Given),
+    Other(u16),
+    Nothing,
 }
 
 // The 192 bytes at a place.
@@ -34,214 +56,152 @@ fn event_at(store: &[u8], k: u16) -> &[u8]
     octets::part(store, (k as usize) * 192, 192)
 }
 
-// The place of an id where it is that of an ancestor of the event at place k, else 256.
-fn ancestor_place(n: u16, ids: &[u8], index: &[u16], rows: &[u64], k: u16, id: &[u8]) -> u16
+fn is_grant(body: Body) -> bool
+    ensures { λ r. ⌜ r ≡ grants body ⌝ }
+{
+    match body {
+        Body::Create => false,
+        Body::Grant(_) => true,
+        Body::Revoke => false,
+        Body::Join(_) => false,
+        Body::Unplug(_) => false,
+    }
+}
+
+fn is_revoke(body: Body) -> bool
+    ensures { λ r. ⌜ r ≡ revokes body ⌝ }
+{
+    match body {
+        Body::Create => false,
+        Body::Grant(_) => false,
+        Body::Revoke => true,
+        Body::Join(_) => false,
+        Body::Unplug(_) => false,
+    }
+}
+
+// Finds the ancestor of the event at place k that has an id.
+fn find_ancestor(n: u16, ids: &[u8], index: &[u16], rows: &[u64], k: u16, id: &[u8]) -> Ancestor
     requires { ⌜ (n ≤ length (now index)) × Ascending (idAt (now ids)) (take n (now index)) ⌝ }
-    ensures { λ r. ⌜ r ≡ ifAncestor (now (rows .entry)) k (placeBy n (now (ids .entry)) (now (index .entry)) (now (id .entry))) ⌝ }
+    ensures { λ r. ⌜ r ≡ ancestorBy n (now (ids .entry)) (now (index .entry)) (now (rows .entry)) k (now (id .entry)) ⌝ }
 {
     let Slot::At(p) = store::search(ids, index, n, id) else {
-        return 256;
+        return Ancestor::Nowhere;
     };
-    if tables::has(rows, k, p) { p } else { 256 }
-}
-
-// The place of what the event at place k presents, 256 where that is no ancestor.
-fn presented_place(store: &[u8], n: u16, ids: &[u8], index: &[u16], rows: &[u64], k: u16) -> u16
-    requires { ⌜ (n ≤ length (now index)) × Ascending (idAt (now ids)) (take n (now index)) ⌝ }
-    ensures { λ r. ⌜ r ≡ presentedAt (now (store .entry)) n (now (ids .entry)) (now (index .entry)) (now (rows .entry)) k ⌝ }
-{
-    ancestor_place(
-        n,
-        ids,
-        index,
-        rows,
-        k,
-        octets::part(event_at(store, k), 32, 32),
-    )
-}
-
-// The place of what the revoke at place k names, 256 where that is no ancestor of kind grant, and for another kind.
-fn target_place(store: &[u8], n: u16, ids: &[u8], index: &[u16], rows: &[u64], k: u16) -> u16
-    requires { ⌜ (n ≤ length (now index)) × Ascending (idAt (now ids)) (take n (now index)) ⌝ }
-    ensures { λ r. ⌜ r ≡ targetAt (now (store .entry)) n (now (ids .entry)) (now (index .entry)) (now (rows .entry)) k ⌝ }
-{
-    let e = event_at(store, k);
-    if octets::byte(e, 0) != 2 {
-        return 256;
-    }
-    let t = ancestor_place(n, ids, index, rows, k, octets::part(e, 64, 32));
-    if octets::byte(event_at(store, t), 0) == 1 {
-        t
+    if tables::has(rows, k, p) {
+        Ancestor::At(p)
     } else {
-        256
+        Ancestor::Nowhere
     }
 }
 
-// Fills the presented place of each of n places.
-fn presented_places(
+// What the ancestor at place p gives: the creator rights 7 to its author, a grant what it says.
+fn given_by(p: u16, e: Parsed) -> Presented
+    ensures { λ r. ⌜ r ≡ givenFrom p (givenBy (e .author) (e .body)) ⌝ }
+{
+    let body = e.body;
+    match body {
+        Body::Create => {
+            let grant = Grant {
+                rights: 7,
+                subject: e.author,
+            };
+            Presented::Gives(Given { place: p, grant })
+        }
+        Body::Grant(grant) => Presented::Gives(Given { place: p, grant }),
+        Body::Revoke => Presented::Other(p),
+        Body::Join(_) => Presented::Other(p),
+        Body::Unplug(_) => Presented::Other(p),
+    }
+}
+
+// Finds the ancestor P that the event at place k presents.
+fn find_presented(
     store: &[u8],
     n: u16,
     ids: &[u8],
     index: &[u16],
     rows: &[u64],
-    table: &mut [u16],
-)
-    requires { ⌜ (n ≤ 256) × (n ≤ length (now index)) × Ascending (idAt (now ids)) (take n (now index)) × (length (now table) ≡ 256) ⌝ }
-    ensures { λ _. ⌜ PresentedTable (now (store .entry)) n (now (ids .entry)) (now (index .entry)) (now (rows .entry)) (now (table .exit)) ⌝ }
+    k: u16,
+) -> Presented
+    requires { ⌜ (n ≤ length (now index)) × Ascending (idAt (now ids)) (take n (now index)) ⌝ }
+    ensures { λ r. ⌜ r ≡ presentedBy (now (store .entry)) n (now (ids .entry)) (now (index .entry)) (now (rows .entry)) k ⌝ }
 {
-    let mut k = 0u16;
-    while k < n {
-        let p = presented_place(store, n, ids, index, rows, k);
-        table[k as usize] = p;
-        k += 1;
+    let id = event::presented_id(event_at(store, k));
+    let Ancestor::At(p) = find_ancestor(n, ids, index, rows, k, id) else {
+        return Presented::Nothing;
+    };
+    given_by(p, event::read(event_at(store, p)))
+}
+
+// Finds the grant that the revoke at place k names, among its ancestors; another kind names none.
+fn find_target(store: &[u8], n: u16, ids: &[u8], index: &[u16], rows: &[u64], k: u16) -> Ancestor
+    requires { ⌜ (n ≤ length (now index)) × Ascending (idAt (now ids)) (take n (now index)) ⌝ }
+    ensures { λ r. ⌜ r ≡ targetBy (now (store .entry)) n (now (ids .entry)) (now (index .entry)) (now (rows .entry)) k ⌝ }
+{
+    let e = event_at(store, k);
+    let revoke = event::read(e);
+    let body = revoke.body;
+    if !is_revoke(body) {
+        return Ancestor::Nowhere;
+    }
+    let Ancestor::At(t) = find_ancestor(n, ids, index, rows, k, event::target_id(e)) else {
+        return Ancestor::Nowhere;
+    };
+    let named = event::read(event_at(store, t));
+    let kind = named.body;
+    if is_grant(kind) {
+        Ancestor::At(t)
+    } else {
+        Ancestor::Nowhere
     }
 }
 
-// Fills the target of each of n places.
-fn target_places(store: &[u8], n: u16, ids: &[u8], index: &[u16], rows: &[u64], table: &mut [u16])
-    requires { ⌜ (n ≤ 256) × (n ≤ length (now index)) × Ascending (idAt (now ids)) (take n (now index)) × (length (now table) ≡ 256) ⌝ }
-    ensures { λ _. ⌜ TargetTable (now (store .entry)) n (now (ids .entry)) (now (index .entry)) (now (rows .entry)) (now (table .exit)) ⌝ }
+// The place of an ancestor as the tables hold it: 256 for none.
+fn ancestor_place(a: Ancestor) -> u16
+    ensures { λ r. ⌜ r ≡ ancestorPlace a ⌝ }
 {
-    let mut k = 0u16;
-    while k < n {
-        let t = target_place(store, n, ids, index, rows, k);
-        table[k as usize] = t;
-        k += 1;
+    match a {
+        Ancestor::At(p) => p,
+        Ancestor::Nowhere => 256,
     }
 }
 
-// Whether the walk that seeks a place may go from a place in `steps` steps to the place `to` at once: as many steps are left, and
-// the sought place has no level of those passed in between.
-fn may_jump(levels: &[u16], left: u16, sought: u16, place: u16, to: u16, steps: u16) -> bool
-    ensures { λ r. ⌜ (r ≡ true → (0 < steps) × (steps ≤ left) × Outside (now (levels .entry)) place to sought) ⌝ }
+fn presented_place(found: Presented) -> u16
+    ensures { λ r. ⌜ r ≡ presentedPlace found ⌝ }
 {
-    if steps == 0 {
-        return false;
-    }
-    if left < steps {
-        return false;
-    }
-    let level = tables::entry(levels, sought);
-    if level <= tables::entry(levels, to) {
-        return true;
-    }
-    tables::entry(levels, place) <= level
-}
-
-// The next place of the walk: where the jump leads, or else what the place presents.
-fn next_step(
-    presented: &[u16],
-    levels: &[u16],
-    jumps: &[u16],
-    left: u16,
-    sought: u16,
-    place: u16,
-) -> Step
-    requires { ⌜ JumpTable (now presented) (now levels) (now jumps) × (0 < left) ⌝ }
-    ensures { λ r. ⌜ Leads (now (presented .entry)) left sought place r ⌝ }
-{
-    let jump = tables::entry(jumps, place);
-    let to = jump % 256;
-    let steps = jump / 256;
-    if may_jump(levels, left, sought, place, to, steps) {
-        return Step { place: to, steps };
-    }
-    Step {
-        place: tables::entry(presented, place),
-        steps: 1,
+    match found {
+        Presented::Gives(given) => given.place,
+        Presented::Other(p) => p,
+        Presented::Nothing => 256,
     }
 }
 
-// Whether the sought place is on the line of a place: the question is passed to a place nearer the creator. `left` bounds the steps
-// to the creator and falls at each call.
-fn on_line(
-    presented: &[u16],
-    levels: &[u16],
-    jumps: &[u16],
-    left: u16,
-    sought: u16,
-    place: u16,
-) -> bool
-    requires { ⌜ JumpTable (now presented) (now levels) (now jumps) ⌝ }
+// Whether the sought place is on the line of a place: the question is passed to the place that it presents, one step nearer the
+// creator. `left` bounds the steps to the creator and falls at each call.
+fn on_line(presented: &[u16], left: u16, sought: u16, place: u16) -> bool
     ensures { λ r. ⌜ r ≡ anyOf (eqb sought) (lineFrom (now (presented .entry)) left place) ⌝ }
 {
     if left == 0 {
         return false;
     }
-    let next = next_step(presented, levels, jumps, left, sought, place);
-    let at = next.place;
-    let steps = next.steps;
-    if 256 <= at {
+    let p = tables::entry(presented, place);
+    if 256 <= p {
         return false;
     }
-    if sought == at {
+    if sought == p {
         return true;
     }
-    on_line(presented, levels, jumps, left - steps, sought, at)
+    on_line(presented, left - 1, sought, p)
 }
 
-// Whether two jumps have equal lengths, of which the sum and one more can be written as a jump's length.
-fn like_jumps(first: u16, second: u16) -> bool
-    ensures { λ r. ⌜ (r ≡ true → (0 < first / 256) × (0 < second / 256) × (first / 256 + second / 256 < 255)) ⌝ }
-{
-    let steps = first / 256;
-    if steps == 0 {
-        return false;
-    }
-    if 127 < steps {
-        return false;
-    }
-    second / 256 == steps
-}
-
-// The jump of a place, from those of the places above it: its number of steps × 256 + where it leads; 0 for none. Where the two
-// jumps from the presented place on are of one length, it is both of them and a step more, else one step. So a walk takes a number
-// of jumps that grows with the logarithm of the line's length.
-fn jump_from(presented: &[u16], levels: &[u16], jumps: &[u16], k: u16) -> u16
-    requires { ⌜ JumpTable (now presented) (now levels) (now jumps) ⌝ }
-    ensures { λ r. ⌜ Jump (now (presented .entry)) (now (levels .entry)) k r ⌝ }
-{
-    let p = tables::entry(presented, k);
-    if 256 <= p {
-        return 0;
-    }
-    if tables::entry(levels, k) <= tables::entry(levels, p) {
-        return 0;
-    }
-    let first = tables::entry(jumps, p);
-    let second = tables::entry(jumps, first % 256);
-    if !like_jumps(first, second) {
-        return 256 + p;
-    }
-    (1 + first / 256 + second / 256) * 256 + second % 256
-}
-
-// What the event at place p gives: the creator rights 7 to its author.
-fn presented_grant(store: &[u8], p: u16) -> Presented
-    ensures { λ r. ⌜ givenIn r ≡ grantAt (now (store .entry)) p ⌝ }
-{
-    if 256 <= p {
-        return Presented::Nothing;
-    }
-    let e = event_at(store, p);
-    let kind = octets::byte(e, 0);
-    if kind == 0 {
-        let subject = octets::byte(e, 1);
-        return Presented::Gives(Grant { rights: 7, subject });
-    }
-    if kind == 1 {
-        let rights = octets::byte(e, 3);
-        let subject = octets::byte(e, 4);
-        return Presented::Gives(Grant { rights, subject });
-    }
-    Presented::Nothing
-}
-
-// Whether rights r have the right q.
+// Whether rights r have the right q; none has the right 0.
 fn has_right(r: u8, q: u8) -> bool
-    requires { ⌜ 0 < q ⌝ }
     ensures { λ b. ⌜ b ≡ has r q ⌝ }
 {
+    if q == 0 {
+        return false;
+    }
     r / q % 2 == 1
 }
 
@@ -254,52 +214,53 @@ fn lies_within(f: u8, g: u8) -> bool
         & (!has_right(f, 4) | has_right(g, 4))
 }
 
-// The right that a kind asks: 2 for a grant, 4 for a revoke, 1 for join and unplug.
-fn right_for(kind: u8) -> u8
-    ensures { λ r. ⌜ (r ≡ rightFor kind) × (0 < r) ⌝ }
+// The right that an event asks: 2 for a grant, 4 for a revoke, 1 for join and unplug.
+fn right_for(body: Body) -> u8
+    ensures { λ r. ⌜ r ≡ rightFor body ⌝ }
 {
-    if kind == 1 {
-        return 2;
+    match body {
+        Body::Create => 0,
+        Body::Grant(_) => 2,
+        Body::Revoke => 4,
+        Body::Join(_) => 1,
+        Body::Unplug(_) => 1,
     }
-    if kind == 2 {
-        return 4;
-    }
-    1
 }
 
-// Whether the presented grant permits an event.
-fn permits(e: &[u8], grant: Grant) -> bool
-    ensures { λ r. ⌜ r ≡ permitsAt (now (e .entry)) grant ⌝ }
+// Whether a grant's rights lie within those of P.
+fn covers_body(grant: Grant, body: Body) -> bool
+    ensures { λ r. ⌜ r ≡ coversBody grant body ⌝ }
 {
-    let kind = octets::byte(e, 0);
-    let author = octets::byte(e, 1);
-    let right = has_right(grant.rights, right_for(kind));
-    let inside = lies_within(octets::byte(e, 3), grant.rights);
-    (grant.subject == author) & right & (!(kind == 1) | inside)
+    match body {
+        Body::Create => true,
+        Body::Grant(given) => lies_within(given.rights, grant.rights),
+        Body::Revoke => true,
+        Body::Join(_) => true,
+        Body::Unplug(_) => true,
+    }
 }
 
-// Whether a revoke's target suits: an ancestor of kind grant, on whose line the presented place is. Another kind names none.
-fn target_suits(
-    store: &[u8],
-    levels: &[u16],
-    presented: &[u16],
-    targets: &[u16],
-    jumps: &[u16],
-    k: u16,
-) -> bool
-    requires { ⌜ JumpTable (now presented) (now levels) (now jumps) ⌝ }
-    ensures { λ r. ⌜ r ≡ targetSuitsAt (now (store .entry)) (now (levels .entry)) (now (presented .entry)) (now (targets .entry)) k ⌝ }
+// Whether what P gives permits an event.
+fn permits(e: Parsed, grant: Grant) -> bool
+    ensures { λ r. ⌜ r ≡ permitsBy (e .author) (e .body) grant ⌝ }
 {
-    if octets::byte(event_at(store, k), 0) != 2 {
+    let body = e.body;
+    let right = has_right(grant.rights, right_for(body));
+    let covered = covers_body(grant, body);
+    (grant.subject == e.author) & right & covered
+}
+
+// Whether a revoke's target suits: there is one, and the place p of P is on its line. Another kind names none.
+fn target_suits(levels: &[u16], presented: &[u16], body: Body, p: u16, target: Ancestor) -> bool
+    ensures { λ r. ⌜ r ≡ targetSuitsAt (now (levels .entry)) (now (presented .entry)) body p target ⌝ }
+{
+    if !is_revoke(body) {
         return true;
     }
-    let t = tables::entry(targets, k);
-    if 256 <= t {
+    let Ancestor::At(t) = target else {
         return false;
-    }
-    let left = tables::entry(levels, t);
-    let sought = tables::entry(presented, k);
-    on_line(presented, levels, jumps, left, sought, t)
+    };
+    on_line(presented, tables::entry(levels, t), p, t)
 }
 
 // Whether the parent at place p is sound; 65535 stands for none.
@@ -321,19 +282,20 @@ fn parents_sound(parents: &[u16], sound: &[u8], k: u16) -> bool
     parent_sound(sound, a) & parent_sound(sound, b) & parent_sound(sound, c)
 }
 
-// 1 where the event at place k is sound, else 0; `sound` says which of its parents are.
+// 1 where the event at place k is sound, else 0, from what it presents and names; `sound` says which of its parents are.
 fn sound_at(
     store: &[u8],
     parents: &[u16],
     levels: &[u16],
     presented: &[u16],
-    targets: &[u16],
-    jumps: &[u16],
     sound: &[u8],
     k: u16,
+    found: Presented,
+    target: Ancestor,
 ) -> u8
-    requires { ⌜ (k < 256) × JumpTable (now presented) (now levels) (now jumps) ⌝ }
-    ensures { λ r. ⌜ r ≡ bit (soundAt (now (store .entry)) (now (parents .entry)) (now (levels .entry)) (now (presented .entry)) (now (targets .entry)) (now (sound .entry)) k) ⌝ }
+    requires { ⌜ k < 256 ⌝ }
+    ensures { λ r. ⌜ r ≡ bit (soundAt (now (store .entry)) (now (parents .entry)) (now (levels .entry)) (now (presented .entry))
+        (now (sound .entry)) k found target) ⌝ }
 {
     if k == 0 {
         return 1;
@@ -341,41 +303,19 @@ fn sound_at(
     if !parents_sound(parents, sound, k) {
         return 0;
     }
-    let Presented::Gives(grant) = presented_grant(store, tables::entry(presented, k)) else {
+    let Presented::Gives(given) = found else {
         return 0;
     };
-    let permitted = permits(event_at(store, k), grant);
-    let suits = target_suits(store, levels, presented, targets, jumps, k);
+    let grant = given.grant;
+    let e = event::read(event_at(store, k));
+    let permitted = permits(e, grant);
+    let body = e.body;
+    let suits = target_suits(levels, presented, body, given.place, target);
     if permitted & suits { 1 } else { 0 }
 }
 
-// Says of each listed place whether it is sound (1); every other entry is 0. The places stand behind their parents.
-fn sound_places(
-    store: &[u8],
-    parents: &[u16],
-    order: &[u16],
-    levels: &[u16],
-    presented: &[u16],
-    targets: &[u16],
-    sound: &mut [u8],
-)
-    requires { ⌜ Ordered (now parents) (now order) × (length (now sound) ≡ 256) ⌝ }
-    ensures { λ _. ⌜ SoundTable (now (store .entry)) (now (parents .entry)) (now (levels .entry)) (now (presented .entry)) (now (targets .entry)) (now (order .entry)) (now (sound .exit)) ⌝ }
-{
-    tables::clear_bytes(sound);
-    let mut jumps = [0u16; 256];
-    let mut i = 0;
-    while i < order.len() {
-        let k = order[i];
-        let jump = jump_from(presented, levels, &jumps, k);
-        jumps[k as usize] = jump;
-        let s = sound_at(store, parents, levels, presented, targets, &jumps, sound, k);
-        sound[k as usize] = s;
-        i += 1;
-    }
-}
-
-// The three tables: what each place presents, what each revoke names, which places are sound.
+// The three tables, for each listed place: what it presents, what it names, whether it is sound (1; another place 0). The places
+// stand behind their parents, and so behind all their ancestors.
 pub fn authorize(
     store: &[u8],
     n: u16,
@@ -389,12 +329,28 @@ pub fn authorize(
     targets: &mut [u16],
     sound: &mut [u8],
 )
-    requires { ⌜ (n ≤ 256) × (n ≤ length (now index)) × Ascending (idAt (now ids)) (take n (now index)) × Ordered (now parents) (now order) × (length (now presented) ≡ 256) × (length (now targets) ≡ 256) × (length (now sound) ≡ 256) ⌝ }
-    ensures { λ _. ⌜ PresentedTable (now (store .entry)) n (now (ids .entry)) (now (index .entry)) (now (rows .entry)) (now (presented .exit)) ⌝ }
-    ensures { λ _. ⌜ TargetTable (now (store .entry)) n (now (ids .entry)) (now (index .entry)) (now (rows .entry)) (now (targets .exit)) ⌝ }
-    ensures { λ _. ⌜ SoundTable (now (store .entry)) (now (parents .entry)) (now (levels .entry)) (now (presented .exit)) (now (targets .exit)) (now (order .entry)) (now (sound .exit)) ⌝ }
+    requires { ⌜ (n ≤ length (now index)) × Ascending (idAt (now ids)) (take n (now index)) × Ordered (now parents) (now order) × AncestorRows (now parents) (now order) (now rows) ⌝ }
+    requires { ⌜ (length (now presented) ≡ 256) × (length (now targets) ≡ 256) × (length (now sound) ≡ 256) ⌝ }
+    ensures { λ _. ⌜ PresentedTable (presentedBy (now (store .entry)) n (now (ids .entry)) (now (index .entry)) (now (rows .entry)))
+        (now (order .entry)) (now (presented .exit)) ⌝ }
+    ensures { λ _. ⌜ TargetTable (targetBy (now (store .entry)) n (now (ids .entry)) (now (index .entry)) (now (rows .entry)))
+        (now (order .entry)) (now (targets .exit)) ⌝ }
+    ensures { λ _. ⌜ SoundTable (now (store .entry)) (now (parents .entry)) (now (levels .entry)) (now (presented .exit))
+        (presentedBy (now (store .entry)) n (now (ids .entry)) (now (index .entry)) (now (rows .entry)))
+        (targetBy (now (store .entry)) n (now (ids .entry)) (now (index .entry)) (now (rows .entry)))
+        (now (order .entry)) (now (sound .exit)) ⌝ }
 {
-    presented_places(store, n, ids, index, rows, presented);
-    target_places(store, n, ids, index, rows, targets);
-    sound_places(store, parents, order, levels, presented, targets, sound);
+    tables::clear_bytes(sound);
+    let mut i = 0;
+    while i < order.len() {
+        let k = order[i];
+        let found = find_presented(store, n, ids, index, rows, k);
+        let target = find_target(store, n, ids, index, rows, k);
+        let s = sound_at(store, parents, levels, presented, sound, k, found, target);
+        let at = k as usize;
+        presented[at] = presented_place(found);
+        targets[at] = ancestor_place(target);
+        sound[at] = s;
+        i += 1;
+    }
 }

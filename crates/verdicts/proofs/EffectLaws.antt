@@ -22,7 +22,6 @@ use borrow.Author.Tests.{eqb-true, eqb-false, eq-eqb, ne-eqb, ltb-true, lt-ltb}
 use Rattle.lists.specs.Cases.{byBool, clash, bool-eq, and→, and←, or→, or←l, or←r}
 use Rattle.lists.specs.Bytes.{Bytes}
 use Rattle.lists.specs.Tests.{memberOf, member→, member←}
-use Rattle.event.specs.Fields.{kindOf}
 use Rattle.model.specs.Events.{Id, Event, isCreate, isRevoke}
 use Rattle.model.specs.Heights.{findIn, View, view, settled, ancestor}
 use Rattle.model.specs.Verdicts.{line, sound, effective, void, verdict}
@@ -37,12 +36,12 @@ use Rattle.model.specs.StoreLaws.{checked→}
 use Rattle.model.specs.Packing.{kind-other}
 use Rattle.store.specs.Tables.{slotIn}
 use Rattle.history.specs.Parents.{eventAt, placeBy}
-use Rattle.history.specs.LevelLaws.{bySlot, distinct-held, own-place, creator-at, creates, later}
+use Rattle.history.specs.LevelLaws.{bySlot, distinct-held, own-place, creates, later}
 use Rattle.history.specs.Order.{ranked}
 use Rattle.history.specs.OrderLaws.{ranked→, ranked←}
 use Rattle.history.specs.Placed.{heldAt, idOf, place-of, held-at, listed→, listed←, one-id, level-low}
 use Rattle.authority.specs.Lines.{Authority}
-use Rattle.authority.specs.KindLaws.{revoke-kind}
+use Rattle.authority.specs.AuthorityLaws.{revoke-other}
 use Rattle.authority.specs.PlaceLaws.{Tables, few, found, place-at, level-is, level-of, lower}
 use Rattle.verdicts.specs.Effects.{Graded, Struck, Effects}
 use Rattle.verdicts.specs.Verdicts.{rankOf, RankTable, verdictOf, VerdictTable}
@@ -80,9 +79,6 @@ module _ {entry : ℕ → ℕ → ℕ} {store : Bytes} {n : ℕ} {ids : Bytes} {
   first-low : 0 < n
   first-low = omega (arith, checked→ entry store n (tables .good) .at-least)
 
-  first-kind : kindOf (eventAt store 0) ≡ 0
-  first-kind = eqb-true (kindOf (eventAt store 0)) 0 (creator-at entry store n (tables .good) ids index (tables .indexed) .0)
-
   first-line : line seen (idOf store 0) ≡ []
   first-line = line-creator held (idOf store 0) (heldAt store 0) (found tables 0 first-low) (creates entry store n (tables .good) ids index (tables .indexed))
 
@@ -97,7 +93,6 @@ module _ {entry : ℕ → ℕ → ℕ} {store : Bytes} {n : ℕ} {ids : Bytes} {
     level-given : getD T (getD Q k 0) 0 ≡ 0 → ⊥
 
   presented-id : (k : ℕ) → Later k → heldAt store k .presented ≡ idOf store (getD Q k 0)
-  unfolding eventOf
   presented-id k a = auth .presents k (a .low) (a .not-first) (a .is-sound) .1
 
   presented-of : (k : ℕ) → Later k → Presented k
@@ -176,19 +171,14 @@ module _ {entry : ℕ → ℕ → ℕ} {store : Bytes} {n : ℕ} {ids : Bytes} {
     target-id : heldAt store r .target ≡ idOf store (getD G r 0)
 
   revoke-of : (r : ℕ) → r < n → sound seen (idOf store r) ≡ true → isRevoke (heldAt store r) ≡ true → Revoke r
-  unfolding eventOf
-  revoke-of r h s t =
-      let kind = eqb-true (kindOf (eventAt store r)) 2 (sym (revoke-kind (eventAt store r)) ∙ t) in
-      let w = auth .names r h kind s in
-      record { is-revoke = t; target-low = w .0; target-id = w .1 }
+  revoke-of r h s t = let w = auth .names r h t s in record { is-revoke = t; target-low = w .0; target-id = w .1 }
 
   revoke-by : (r : ℕ) → r < n → sound seen (idOf store r) ≡ true → getD G r 0 < n → Revoke r
   revoke-by r h s l =
-      byBool (eqb (kindOf (eventAt store r)) 2)
-      (λ t. revoke-of r h s (revoke-kind (eventAt store r) ∙ t))
+      byBool (isRevoke (heldAt store r))
+      (λ t. revoke-of r h s t)
       (λ f.
-      let past = auth .no-target r h (eqb-false (kindOf (eventAt store r)) 2 f) in
-      let z : ⊥ = omega (arith, past, l, few tables) in
+      let z : ⊥ = omega (arith, auth .no-target r h f s, l, few tables) in
       absurd z)
 
   later-revoke : (r : ℕ) → r < n → sound seen (idOf store r) ≡ true → isRevoke (heldAt store r) ≡ true → Later r
@@ -196,8 +186,9 @@ module _ {entry : ℕ → ℕ → ℕ} {store : Bytes} {n : ℕ} {ids : Bytes} {
       record {
         low = h;
         not-first = λ e.
-            let kind = eqb-true (kindOf (eventAt store r)) 2 (sym (revoke-kind (eventAt store r)) ∙ t) in
-            omega (arith, kind, first-kind, ap (λ (x : ℕ). kindOf (eventAt store x)) e);
+            clash (isCreate (heldAt store r))
+            (ap (λ (x : ℕ). isCreate (heldAt store x)) e ∙ creates entry store n (tables .good) ids index (tables .indexed))
+            (revoke-other (heldAt store r .body) t);
         is-sound = s;
       }
 

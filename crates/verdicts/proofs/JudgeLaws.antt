@@ -21,6 +21,7 @@ use Rattle.history.specs.Placed.{index-ascends, index-apart, listed→, level-l
 use Rattle.tables.specs.Filling.{everywhere}
 use Rattle.ancestry.specs.Ancestors.{AncestorRows}
 use Rattle.ancestry.specs.AncestorLaws.{ancestor-bits}
+use Rattle.authority.specs.Found.{presentedBy, targetBy}
 use Rattle.authority.specs.Sound.{PresentedTable, TargetTable, SoundTable}
 use Rattle.authority.specs.PlaceLaws.{Tables, few}
 use Rattle.authority.specs.AuthorityLaws.{authority}
@@ -99,8 +100,8 @@ judged store ids n index P T M Q G S R l E Z t ranks e effects verdicts =
 -- the tables that the steps make
 pub tabled : (store : Bytes) (n : ℕ) (ids : Bytes) (index P T M Q G S l : List ℕ) → storeGood cordLimit store n ≡ true
     → TablesOf store n ids index → ParentTable store n ids index P → length T ≡ n → Fixed P T → l ≡ ranked T (take n index) 256
-    → AncestorRows P l M → PresentedTable store n ids index M Q → TargetTable store n ids index M G
-    → SoundTable store P T Q G l S → Tabled store n ids index P T M Q G S
+    → AncestorRows P l M → PresentedTable (presentedBy store n ids index M) l Q → TargetTable (targetBy store n ids index M) l G
+    → SoundTable store P T Q (presentedBy store n ids index M) (targetBy store n ids index M) l S → Tabled store n ids index P T M Q G S
 tabled store n ids index P T M Q G S l good indexed parents long fixed e rows presents names sounds =
     record { tables = made; authority = authority made S l sounds settled-listed (λ k m. only k (subst (List·Memᴰ k) e m) .1) }
   where
@@ -119,8 +120,8 @@ tabled store n ids index P T M Q G S l good indexed parents long fixed e rows pr
           long = long;
           fixed = fixed;
           ancestors = ancestor-bits cordLimit store n good ids index indexed P parents T long fixed M l rows settled-listed;
-          presents = presents;
-          names = names;
+          presents = λ k h ne. presents .entry k (settled-listed k h ne);
+          names = λ k h ne. names .entry k (settled-listed k h ne);
         }
 
 -- they meet what the judgement asks

@@ -1,7 +1,6 @@
 use mathlib.Core.Path.{refl, sym, subst}
 use lib.Seq.{length-take-le}
 use Rattle.cords.specs.Cords.{cordLimit}
-use Rattle.model.specs.StoreLaws.{checked→}
 use Rattle.history.specs.Order.{Ordered}
 use Rattle.history.specs.Placed.{index-ascends, ordered}
 use Rattle.verdicts.proofs.JudgeLaws.{tabled, judgeable-by, judged-by}
@@ -31,14 +30,15 @@ slice-aggregate-authorize-4 c = search needs
 
 authorize-requires : tie.Need-authorize-requires
 authorize-requires c κs =
+    let x = c .before .before .before .before .before .ancestors in
     let p = c .before .before .before .before .before .before .before .before .before .before .before .before .before .before .pre in (
-      checked→ cordLimit _ _ (p .0 .0) .at-most,
-      p .0 .2,
-      index-ascends cordLimit _ _ (p .0 .0) _ _ (p .0 .1),
-      subst (Ordered _) (sym (p .1 .1 .0)) (ordered cordLimit _ _ (p .0 .0) _ _ (p .0 .1) _ (p .1 .0 .0) _ (p .1 .0 .2) (p .1 .0 .3)),
-      refl,
-      refl,
-      refl,
+      (
+        p .0 .2,
+        index-ascends cordLimit _ _ (p .0 .0) _ _ (p .0 .1),
+        subst (Ordered _) (sym (p .1 .1 .0)) (ordered cordLimit _ _ (p .0 .0) _ _ (p .0 .1) _ (p .1 .0 .0) _ (p .1 .0 .2) (p .1 .0 .3)),
+        x .ensures,
+      ),
+      (refl, refl, refl),
     )
 
 slice-aggregate-places : tie.Need-slice-aggregate-places

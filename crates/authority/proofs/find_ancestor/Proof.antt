@@ -1,9 +1,7 @@
-use native.Mathlib.Omega.{arith}
 use mathlib.Core.Path.{sym, _∙_}
-use Rattle.tables.specs.Bits.{bit-high}
 use borrow.Author.Needs.{needs}
-use Rattle.authority.proofs.ancestor_place.Statement.{statement}
-use Rattle.authority.proofs.ancestor_place.Tie as tie
+use Rattle.authority.proofs.find_ancestor.Statement.{statement}
+use Rattle.authority.proofs.find_ancestor.Tie as tie
 
 search-requires : tie.Need-search-requires
 search-requires c κs = search needs
@@ -15,9 +13,7 @@ enum-told : tie.Need-enum-told
 enum-told c = search needs
 
 returns : tie.Need-returns
-returns c =
-    let a = c .before .before .before .before .before .before .before .args in
-    rw (sym (c .before .before .search .ensures) ∙ c .enum-told .given .1, bit-high (a .rows .now) (a .k) 256 (omega arith))
+returns c = rw (sym (c .before .before .search .ensures) ∙ c .enum-told .given .1)
 
 has-requires : tie.Need-has-requires
 has-requires c κs = search needs
@@ -32,7 +28,7 @@ returns-3 c =
     let found = c .before .before .before in
     rw (sym (found .before .before .search .ensures) ∙ found .p .given .1, sym (c .before .has .ensures) ∙ c .if1 .left)
 
-pub ancestor-place-spec : {M : Type 1} → statement M
-ancestor-place-spec =
+pub find-ancestor-spec : {M : Type 1} → statement M
+find-ancestor-spec =
     tie.close
     (tie.spec search-requires enum-known-p enum-told returns has-requires returns-2 returns-3)
