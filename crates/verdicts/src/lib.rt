@@ -25,7 +25,8 @@ fn rank(levels: &[u16], presented: &[u16], sound: &[u8], k: u16) -> u16
         return 0;
     }
     if octets::byte(sound, k as usize) == 1 {
-        return tables::entry(levels, tables::entry(presented, k));
+        let by = tables::entry(presented, k);
+        return tables::entry(levels, by);
     }
     0
 }
@@ -55,6 +56,13 @@ fn strike(targets: &[u16], rows: &[u64], keep: &mut [u64], e: u16)
     }
 }
 
+// 1 for true, 0 for false.
+fn digit(test: bool) -> u8
+    ensures { λ r. ⌜ r ≡ bit test ⌝ }
+{
+    if test { 1 } else { 0 }
+}
+
 // Whether e is effective (1): the row of the presented place keeps it. The row of e then keeps no more than that row, and an
 // effective revoke strikes.
 fn effect(presented: &[u16], targets: &[u16], rows: &[u64], keep: &mut [u64], e: u16) -> u8
@@ -68,9 +76,8 @@ fn effect(presented: &[u16], targets: &[u16], rows: &[u64], keep: &mut [u64], e:
     tables::meet(keep, e, above);
     if kept {
         strike(targets, rows, keep, e);
-        return 1;
     }
-    0
+    digit(kept)
 }
 
 // Only the creator is effective.

@@ -1,7 +1,7 @@
 use Prim.Native.Nat.{ℕ}
 use mathlib.Core.Path.{_≡_, sym, ap, _∙_}
-use mathlib.Core.Bool.{true, false}
-use lib.ListN.{getD}
+use mathlib.Core.Logic.{⊎-elim}
+use lib.ListN.{length, getD}
 use Rattle.tables.specs.Bits.{bitAt}
 use Rattle.authority.specs.Sound.{bit}
 use Rattle.verdicts.proofs.Laws.{narrowed-kept, narrowed-void}
@@ -24,40 +24,33 @@ meet-requires c κs = search needs
 strike-requires : tie.Need-strike-requires
 strike-requires c κs = search needs
 
+digit-requires : tie.Need-digit-requires
+digit-requires c κs = search needs
+
 same-length : tie.Need-same-length
-same-length c = search needs
+same-length c =
+    let m = c .before .before .before .before .meet in
+    ⊎-elim
+    (λ w. ap length (w .5) ∙ w .2 .kept .1 .1 .0 ∙ m .kept .0)
+    (λ w. ap length (w .1) ∙ m .kept .0)
+    (c .before .if1 .came)
 
 returns : tie.Need-returns
 returns c =
-    let s = c .before .before in
-    let t = s .before .before in
-    let m = t .before .before .before in
+    let m = c .before .before .before .before in
     let r = m .before .before in
     let h = r .before .before in
     let n = h .before .before in
     let a = n .before .before .before .before .before .args in
-    let kept : bitAt (a .keep .now) (getD (a .presented .now) (a .e) 0) (a .e) ≡ true =
-    ap (λ (g : ℕ). bitAt (a .keep .now) g (a .e)) (sym (n .entry .ensures)) ∙ sym (h .has .ensures) ∙ t .if1 .taken in (
-      sym (ap bit kept),
-      narrowed-kept (a .presented .now) (a .targets .now) (a .rows .now) (a .keep .now) (a .e) (n .entry .result) (n .entry .ensures)
-          (r .row .result) (m .meet .last .0) (r .row .ensures) (m .meet .ensures) kept (s .strike .last .1 .1 .0) (s .strike .ensures),
-    )
-
-same-length-2 : tie.Need-same-length-2
-same-length-2 c = search needs
-
-returns-2 : tie.Need-returns-2
-returns-2 c =
-    let m = c .before .before .before in
-    let r = m .before .before in
-    let h = r .before .before in
-    let n = h .before .before in
-    let a = n .before .before .before .before .before .args in
-    let out : bitAt (a .keep .now) (getD (a .presented .now) (a .e) 0) (a .e) ≡ false =
-    ap (λ (g : ℕ). bitAt (a .keep .now) g (a .e)) (sym (n .entry .ensures)) ∙ sym (h .has .ensures) ∙ c .if1 .left in (
-      sym (ap bit out),
-      narrowed-void (a .presented .now) (a .targets .now) (a .rows .now) (a .keep .now) (a .e) (n .entry .result) (n .entry .ensures)
-          (r .row .result) (m .meet .last .0) (r .row .ensures) (m .meet .ensures) out,
+    let is : bitAt (a .keep .now) (getD (a .presented .now) (a .e) 0) (a .e) ≡ h .has .result =
+    ap (λ (g : ℕ). bitAt (a .keep .now) g (a .e)) (sym (n .entry .ensures)) ∙ sym (h .has .ensures) in (
+      c .digit .ensures ∙ ap bit (sym is),
+      ⊎-elim
+          (λ w. rw (w .5) (narrowed-kept (a .presented .now) (a .targets .now) (a .rows .now) (a .keep .now) (a .e) (n .entry .result) (n .entry .ensures)
+          (r .row .result) (m .meet .last .0) (r .row .ensures) (m .meet .ensures) (is ∙ w .0 .taken) (w .2 .last .1 .1 .0) (w .2 .ensures)))
+          (λ w. rw (w .1) (narrowed-void (a .presented .now) (a .targets .now) (a .rows .now) (a .keep .now) (a .e) (n .entry .result) (n .entry .ensures)
+          (r .row .result) (m .meet .last .0) (r .row .ensures) (m .meet .ensures) (is ∙ w .0 .left)))
+          (c .before .if1 .came),
     )
 
 pub effect-spec : {M : Type 1} → statement M
@@ -69,7 +62,6 @@ effect-spec =
     row-requires
     meet-requires
     strike-requires
+    digit-requires
     same-length
-    returns
-    same-length-2
-    returns-2)
+    returns)
