@@ -1,4 +1,6 @@
-use mathlib.Core.Path.{sym, _∙_}
+use native.Mathlib.Omega.{arith}
+use mathlib.Core.Path.{_≡_, sym, _∙_}
+use lib.ListN.{getD}
 use borrow.Author.Tests.{eq-eqb, ne-eqb}
 use Rattle.verdicts.specs.Verdicts.{verdictOf}
 use borrow.Author.Needs.{needs}
@@ -10,7 +12,10 @@ entry-requires c κs = search needs
 
 returns : tie.Need-returns
 unfolding verdictOf
-returns c = sym (rw (eq-eqb _ _ (sym (c .before .entry .ensures) ∙ c .if1 .taken)))
+returns c =
+    let a = c .before .before .before .before .before .args in
+    let waits : getD (a .levels .now) (a .k) 0 ≡ 0 = omega (arith, c .before .entry .ensures) in
+    sym (rw (eq-eqb _ _ waits))
 
 byte-requires : tie.Need-byte-requires
 byte-requires c κs = search needs
