@@ -244,10 +244,11 @@ fn covers_body(grant: Grant, body: Body) -> bool
 fn permits(e: Parsed, grant: Grant) -> bool
     ensures { λ r. ⌜ r ≡ permitsBy (e .author) (e .body) grant ⌝ }
 {
+    let author = e.author;
     let body = e.body;
     let right = has_right(grant.rights, right_for(body));
     let covered = covers_body(grant, body);
-    (grant.subject == e.author) & right & covered
+    (grant.subject == author) & right & covered
 }
 
 // Whether a revoke's target suits: there is one, and the place p of P is on its line. Another kind names none.

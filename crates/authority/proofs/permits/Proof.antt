@@ -14,7 +14,7 @@ covers-body-requires c κs = search needs
 
 returns : tie.Need-returns
 returns c =
-    let covered = c .before .before in
+    let covered = c .before in
     permits-is _ _ _ _ _ _ (covered .before .before .right-for .ensures) (covered .before .has-right .ensures) (covered .covers-body .ensures)
 
 pub permits-spec : {M : Type 1} → statement M
