@@ -1,7 +1,8 @@
 /*
  * Calls each function with null pointers of length 0, with wrong lengths and
  * with whatever else it refuses, and checks the number that it returns and that
- * what it was lent is as it was. Number 11 is left out: no store has it.
+ * what it was lent is as it was; the count is 0 after a refused start. Number 11
+ * is left out: no store has it.
  *
  *     gcc -std=c99 -Wall -Wextra -Werror -I include examples/refusals.c target/staticlib/libunit_c.a -o refusals
  *     ./refusals
@@ -17,7 +18,7 @@
 
 static uint8_t store[STORE], store_before[STORE];
 static uint8_t out[STORE + 12], out_before[STORE + 12];
-static uint8_t zeros[STORE];
+static uint8_t zeros[STORE + EVENT];
 
 static int failures;
 
@@ -47,7 +48,7 @@ static void start(const char *what, uint8_t want, uint8_t *s, size_t s_len, cons
 {
     size_t count = 77;
     uint8_t got = pelchunda_start(s, s_len, e, e_len, &count);
-    check(what, got == want && count == 77 && kept());
+    check(what, got == want && count == 0 && kept());
 }
 
 /* Both takes of one event. */
@@ -104,10 +105,16 @@ static void write_out(const char *what, uint8_t want, const uint8_t *s, size_t s
     check(what, pelchunda_write_out(s, s_len, n, o, o_len, &bytes) == want && bytes == 77 && kept());
 }
 
-static void text(const char *what, uint8_t want, const uint8_t *b, size_t b_len, uint8_t *s, size_t s_len, uint8_t *o, size_t o_len)
+static void text(const char *what, uint8_t want, const uint8_t *s, size_t s_len, size_t n, uint8_t *o, size_t o_len)
 {
     size_t bytes = 77;
-    check(what, pelchunda_text(b, b_len, s, s_len, o, o_len, &bytes) == want && bytes == 77 && kept());
+    check(what, pelchunda_text(s, s_len, n, o, o_len, &bytes) == want && bytes == 77 && kept());
+}
+
+static void first_event(const char *what, uint8_t want, const uint8_t *b, size_t b_len)
+{
+    size_t offset = 77;
+    check(what, pelchunda_first_event(b, b_len, &offset) == want && offset == 77 && kept());
 }
 
 static void id(const char *what, uint8_t want, const uint8_t *e, size_t e_len, uint8_t *i, size_t i_len)
@@ -249,48 +256,64 @@ static void try_map(void)
     map("map: one link, 7 bytes", 10, store, STORE, 2, out, 7);
 }
 
-/* A bundle of the creator alone starts a unit; the store is then the room's. */
+/* The text of the creator alone is one line of 35 bytes. */
 static void try_text(void)
 {
-    uint8_t b[EVENT + 12];
     size_t bytes = 77;
-    memset(store, 0xa5, sizeof store);
-    memcpy(b, creator, EVENT);
-    make_trailer(b + EVENT, 1);
     keep();
-    text("text: null store", 1, b, sizeof b, NULL, 0, out, sizeof out);
-    text("text: null bundle", 8, NULL, 0, store, STORE, out, sizeof out);
-    text("text: short store", 1, b, sizeof b, store, STORE - 1, out, sizeof out);
-    text("text: cut bundle", 8, b, sizeof b - 1, store, STORE, out, sizeof out);
-    b[1] = 32;
-    text("text: author 32", 3, b, sizeof b, store, STORE, out, sizeof out);
-    make_join(b, 4, 5, 12);
-    text("text: a join first", 5, b, sizeof b, store, STORE, out, sizeof out);
-    make_trailer(b + EVENT, 0);
-    text("text: no event", 5, b, sizeof b, store, STORE, out, sizeof out);
-    memcpy(b, creator, EVENT);
-    make_trailer(b + EVENT, 1);
-    check("text: null output", pelchunda_text(b, sizeof b, store, STORE, NULL, 0, &bytes) == 10 && bytes == 77);
-    check("text: the room's store", memcmp(store, creator, EVENT) == 0);
-    check("text: the rest of the store", memcmp(store + EVENT, store_before + EVENT, STORE - EVENT) == 0);
+    text("text: null store", 1, NULL, 0, 1, out, sizeof out);
+    text("text: short store", 1, store, STORE - 1, 1, out, sizeof out);
+    text("text: count 0", 2, store, STORE, 0, out, sizeof out);
+    text("text: null output", 10, store, STORE, 1, NULL, 0);
+    text("text: 34 bytes", 10, store, STORE, 1, out, 34);
+    check("text: 35 bytes", pelchunda_text(store, STORE, 1, out, 35, &bytes) == 0 && bytes == 35);
+    check("text: the line", memcmp(out, "LINKS 0 WAITING 0 UNSOUND 0 VOID 0\n", 35) == 0);
 }
 
+/* A bundle of the creator behind a drawing of 5 bytes. */
+static void try_first_event(void)
+{
+    uint8_t b[5 + EVENT + 12];
+    size_t offset = 77;
+    memset(b, 0xa5, 5);
+    memcpy(b + 5, creator, EVENT);
+    make_trailer(b + 5 + EVENT, 1);
+    keep();
+    first_event("first event: null bundle", 8, NULL, 0);
+    first_event("first event: cut bundle", 8, b, sizeof b - 1);
+    first_event("first event: past the front", 8, b + 6, sizeof b - 6);
+    check("first event", pelchunda_first_event(b, sizeof b, &offset) == 0 && offset == 5 && kept());
+    make_trailer(b + 5 + EVENT, 0);
+    first_event("first event: none", 5, b, sizeof b);
+    first_event("first event: a trailer alone", 5, b + 5 + EVENT, 12);
+}
+
+/* Of an output that is longer than the ids, the bytes past them stay. */
 static void try_id(void)
 {
-    uint8_t i[ID];
+    uint8_t i[ID + 1], j[2 * ID + 1], two[2 * EVENT];
     memset(i, 0xa5, sizeof i);
+    memset(j, 0xa5, sizeof j);
+    memset(two, 0, sizeof two);
+    keep();
     id("id: null event", 1, NULL, 0, i, ID);
-    id("id: null id", 1, creator, EVENT, NULL, 0);
+    id("id: null id", 10, creator, EVENT, NULL, 0);
     id("id: short event", 1, creator, EVENT - 1, i, ID);
-    id("id: short id", 1, creator, EVENT, i, ID - 1);
+    id("id: short event and null id", 1, creator, EVENT - 1, NULL, 0);
+    id("id: short id", 10, creator, EVENT, i, ID - 1);
     ids("ids: null events and null ids", 0, NULL, 0, NULL, 0);
-    ids("ids: null events", 1, NULL, 0, i, ID);
-    ids("ids: null ids", 1, creator, EVENT, NULL, 0);
+    ids("ids: null events", 0, NULL, 0, i, ID);
+    ids("ids: null ids", 10, creator, EVENT, NULL, 0);
     ids("ids: short event", 1, creator, EVENT - 1, i, ID);
-    ids("ids: short id", 1, creator, EVENT, i, ID - 1);
-    for (size_t k = 0; k < ID; k++) {
+    ids("ids: short id", 10, creator, EVENT, i, ID - 1);
+    ids("ids: 257 events", 1, zeros, STORE + EVENT, out, sizeof out);
+    for (size_t k = 0; k < sizeof i; k++) {
         check("id: as it was", i[k] == 0xa5);
     }
+    id("id: one byte more", 0, creator, EVENT, i, ID + 1);
+    ids("ids: one byte more", 0, two, sizeof two, j, sizeof j);
+    check("id: the byte past it", i[ID] == 0xa5 && j[2 * ID] == 0xa5);
+    check("ids: each the id", memcmp(i, j, ID) == 0 && memcmp(i, j + ID, ID) == 0);
 }
 
 /* 256 held: a new event meets 7, a held one is a repeat. A figure of the tally
@@ -329,6 +352,7 @@ int main(void)
     try_map();
     try_id();
     try_text();
+    try_first_event();
     try_full();
     if (failures != 0) {
         return 1;

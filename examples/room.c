@@ -25,21 +25,6 @@ static unsigned long number(const uint8_t *at, size_t n)
     return value;
 }
 
-/* The first event of a bundle, by the distance in its trailer; null where the
- * file is too short for the trailer, the distance or an event. */
-static const uint8_t *first_event(const uint8_t *bundle, size_t len)
-{
-    if (len < PELCHUNDA_TRAILER_BYTES) {
-        return NULL;
-    }
-    size_t trailer = len - PELCHUNDA_TRAILER_BYTES;
-    unsigned long distance = number(bundle + trailer, 4);
-    if (trailer < distance || distance < PELCHUNDA_EVENT_BYTES) {
-        return NULL;
-    }
-    return bundle + (trailer - distance);
-}
-
 /* Prints the number of a refusal. */
 static int refused(const char *call, uint8_t number_shown)
 {
@@ -82,14 +67,13 @@ int main(int argc, char **argv)
         fprintf(stderr, "%s: cannot be read, or is longer than %d bytes\n", argv[1], FILE_BYTES);
         return 2;
     }
-    const uint8_t *first = first_event(file, len);
-    if (first == NULL) {
-        fprintf(stderr, "%s: no bundle with an event\n", argv[1]);
-        return 2;
-    }
 
-    size_t count = 0;
-    uint8_t answer = pelchunda_start(store, sizeof store, first, PELCHUNDA_EVENT_BYTES, &count);
+    size_t offset = 0, count = 0;
+    uint8_t answer = pelchunda_first_event(file, len, &offset);
+    if (answer != PELCHUNDA_OK) {
+        return refused("first event", answer);
+    }
+    answer = pelchunda_start(store, sizeof store, file + offset, PELCHUNDA_EVENT_BYTES, &count);
     if (answer != PELCHUNDA_OK) {
         return refused("start", answer);
     }

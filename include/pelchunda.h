@@ -7,8 +7,10 @@
  *
  * A slice of bytes is two arguments: a pointer, and a length that has its name
  * and `_len`. Each call returns 0, or the number of a refusal (below). What it
- * answers besides goes to the numbers behind the other pointers. A refusal
- * leaves these as they were, except where a call says otherwise.
+ * answers besides goes to the numbers behind the other pointers. A refused
+ * call leaves all that it was lent as it was, but for two things that document
+ * 01 names: the count after a refused start is 0, and a refused take raises the
+ * tally's refused figure.
  *
  * What the library guarantees, by proof, for every content and every length of
  * the slices and every count: the call returns, reads and writes nothing but
@@ -56,8 +58,8 @@ extern "C" {
 #define PELCHUNDA_BUNDLE_BYTES 49164    /* enough for every write-out */
 #define PELCHUNDA_TEXT_BYTES 8192       /* enough for every text */
 
-/* The numbers that a call returns. Of several that apply, it is the smallest,
- * but for pelchunda_text, which names its order. */
+/* The numbers that a call returns. Of several that apply, it is the smallest.
+ * (pelchunda_first_event looks for an event only in a bundle that passes 8.) */
 enum pelchunda_number {
     PELCHUNDA_OK = 0,
     PELCHUNDA_WRONG_LENGTH = 1,   /* an event not 192 bytes, a store not 49,152, an asked id not 32 */
@@ -94,8 +96,8 @@ enum pelchunda_figure {
  *
  * store    49,152 bytes; those past place 0 may be any, and stay
  * event    192 bytes
- * count    is 1 after the call
- * returns  0, 1, 3 or 5; a refusal leaves the store and the count as they were
+ * count    is 1 after the call, and 0 after a refusal
+ * returns  0, 1, 3 or 5; a refusal leaves the store as it was
  * empty    store or event: 1
  * stack    256 bytes
  */
@@ -237,31 +239,42 @@ uint8_t pelchunda_write_out(const uint8_t *store, size_t store_len, size_t count
                             size_t *bytes);
 
 /*
- * The text of the printing program: starts a unit in the store with the first
- * event of a bundle, takes the whole bundle, and writes the text of the room.
+ * Writes the text of the events held, as the printing program writes it: a line
+ * with the numbers of links and of waiting, unsound and void events, then a
+ * line for each row of the map.
  *
- * store    49,152 bytes to work in, of any content; after a call that returns
- *          0 or 10 it holds the room's events
  * out      the lines, each with its line feed; the bytes past them stay
  * bytes    the length of the text
- * returns  0, or the first of: 1 (the store), 8, 5 (a bundle of no events),
- *          3 and 5 (its first event), 10. A refusal leaves out and bytes as
- *          they were, and all but 10 the store too
- * empty    store: 1; bundle: 8; out: 10, where the bundle starts a unit
+ * returns  0, 1, 2 or 10; a refusal leaves out and bytes as they were
+ * empty    store: 1; out: 10, where the store is good
  * stack    39,680 bytes
  */
-uint8_t pelchunda_text(const uint8_t *bundle, size_t bundle_len,
-                       uint8_t *store, size_t store_len,
+uint8_t pelchunda_text(const uint8_t *store, size_t store_len, size_t count,
                        uint8_t *out, size_t out_len,
                        size_t *bytes);
+
+/*
+ * Finds the first event of a bundle, with which a unit can be started. The
+ * event is not tested.
+ *
+ * bundle   as for pelchunda_take_bundle
+ * offset   where the event starts: its 192 bytes are at bundle + offset
+ * returns  0; 8 where the bundle is bad; 5 where it has no event. A refusal
+ *          leaves offset as it was
+ * empty    bundle: 8
+ * stack    256 bytes
+ */
+uint8_t pelchunda_first_event(const uint8_t *bundle, size_t bundle_len,
+                              size_t *offset);
 
 /*
  * The id of an event: the SHA-256 of its 192 bytes. The event is not tested.
  *
  * event    192 bytes
- * id       32 bytes, all written
- * returns  0; or 1 where a length is another, and id stays as it was
- * empty    event or id: 1
+ * id       at least 32 bytes: the id; the bytes past it stay
+ * returns  0; 1 where the event has another length; 10 where id is too short.
+ *          A refusal leaves id as it was
+ * empty    event: 1; id: 10, where the event has its length
  * stack    1,280 bytes
  */
 uint8_t pelchunda_id(const uint8_t *event, size_t event_len,
@@ -272,10 +285,10 @@ uint8_t pelchunda_id(const uint8_t *event, size_t event_len,
  * bytes. It takes less time than n calls for one. The events are not tested.
  *
  * events   n times 192 bytes
- * ids      n times 32 bytes, all written
- * returns  0; or 1 where ids_len is no multiple of 32 or above 8,192, or
- *          events_len is not six times ids_len, and ids stays as it was
- * empty    both: 0; one of them: 1
+ * ids      at least n times 32 bytes: the ids; the bytes past them stay
+ * returns  0; 1 where events_len is no multiple of 192 or above 49,152; 10
+ *          where ids is too short. A refusal leaves ids as it was
+ * empty    events: 0, n is 0; ids: 10, where there is an event
  * stack    3,072 bytes
  */
 uint8_t pelchunda_ids(const uint8_t *events, size_t events_len,

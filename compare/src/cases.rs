@@ -16,11 +16,12 @@ pub enum Kind {
     Map,
     WriteOut,
     Text,
+    FirstEvent,
     Id,
     Ids,
 }
 
-pub const KINDS: [Kind; 13] = [
+pub const KINDS: [Kind; 14] = [
     Kind::Start,
     Kind::Take,
     Kind::TakeCounted,
@@ -32,8 +33,23 @@ pub const KINDS: [Kind; 13] = [
     Kind::Map,
     Kind::WriteOut,
     Kind::Text,
+    Kind::FirstEvent,
     Kind::Id,
     Kind::Ids,
+];
+
+/// The kinds that take or read what a store holds: all that test the store and the count that they are lent.
+pub const HOLDING: &[Kind] = &[
+    Kind::Take,
+    Kind::TakeCounted,
+    Kind::TakeBundle,
+    Kind::TakeBundleCounted,
+    Kind::LookUp,
+    Kind::Order,
+    Kind::Verdict,
+    Kind::Map,
+    Kind::WriteOut,
+    Kind::Text,
 ];
 
 /// Everything that a call is lent: `offered` is an event, some events, a bundle or an id. A kind leaves alone what it has no use for.
@@ -116,7 +132,7 @@ fn ask_unit(c: &Call, a: &mut Answer, s: &mut [u8], offered: &[u8], o: &mut [u8]
     let size = |(n, v): (u8, usize)| (n, sizes(&[v]));
     let figures = |(n, v): (u8, [u32; 3])| (n, wide(v));
     match c.kind {
-        Kind::Start => size(unit::start(s, offered)),
+        Kind::Start => (unit::start(s, &mut a.count, offered), vec![]),
         Kind::Take => byte(unit::take(s, &mut a.count, offered)),
         Kind::TakeCounted => byte(unit::take_counted(s, &mut a.count, offered, &mut a.tally)),
         Kind::TakeBundle => figures(unit::take_bundle(s, &mut a.count, offered)),
@@ -132,7 +148,8 @@ fn ask_unit(c: &Call, a: &mut Answer, s: &mut [u8], offered: &[u8], o: &mut [u8]
             (n, sizes(&values))
         }
         Kind::WriteOut => size(unit::write_out(s, c.count, o)),
-        Kind::Text => size(unit::text(offered, s, o)),
+        Kind::Text => size(unit::text(s, c.count, o)),
+        Kind::FirstEvent => size(unit::first_event(offered)),
         Kind::Id => (unit::id(offered, o), vec![]),
         Kind::Ids => (unit::ids(offered, o), vec![]),
     }
@@ -152,7 +169,8 @@ pub fn by_reference(c: &Call) -> Answer {
     (a.number, a.values) = match c.kind {
         Kind::Start => {
             let (answer, count) = reference::start(&mut a.store, &c.offered);
-            shown(answer, |()| sizes(&[count]), sizes(&[UNSET_SIZE]))
+            a.count = count;
+            shown(answer, |()| vec![], vec![])
         }
         Kind::Take | Kind::TakeCounted => take(c, &mut a),
         Kind::TakeBundle | Kind::TakeBundleCounted => take_bundle(c, &mut a),
@@ -173,6 +191,7 @@ pub fn by_reference(c: &Call) -> Answer {
             shown(reference::write_out(&a.store, c.count, &mut a.out), |n| sizes(&[n]), sizes(&[UNSET_SIZE]))
         }
         Kind::Text => text(c, &mut a),
+        Kind::FirstEvent => shown(reference::first_event(&c.offered), |n| sizes(&[n]), sizes(&[UNSET_SIZE])),
         Kind::Id => (id(c, &mut a), vec![]),
         Kind::Ids => (ids(c, &mut a), vec![]),
     };
@@ -202,9 +221,8 @@ fn take_bundle(c: &Call, a: &mut Answer) -> (u8, Vec<u64>) {
     shown(answer, |f| wide([f.new, f.repeats, f.refused]), wide(UNSET_FIGURES))
 }
 
-/// Where the text does not fit, the store is the room's already.
 fn text(c: &Call, a: &mut Answer) -> (u8, Vec<u64>) {
-    let answer = reference::text(&c.offered, &mut a.store).and_then(|text| {
+    let answer = reference::text(&a.store, c.count).and_then(|text| {
         let out = a.out.get_mut(..text.len()).ok_or(10u8)?;
         out.copy_from_slice(text.as_bytes());
         Ok(text.len())
@@ -213,17 +231,19 @@ fn text(c: &Call, a: &mut Answer) -> (u8, Vec<u64>) {
 }
 
 fn id(c: &Call, a: &mut Answer) -> u8 {
-    let (Ok(event), 32) = (<&[u8; 192]>::try_from(&c.offered[..]), a.out.len()) else { return 1 };
-    a.out.copy_from_slice(&Portable::id(event));
+    let Ok(event) = <&[u8; 192]>::try_from(&c.offered[..]) else { return 1 };
+    let Some(out) = a.out.get_mut(..32) else { return 10 };
+    out.copy_from_slice(&Portable::id(event));
     0
 }
 
 fn ids(c: &Call, a: &mut Answer) -> u8 {
-    let n = a.out.len() / 32;
-    if n > 256 || a.out.len() != 32 * n || c.offered.len() != 192 * n {
+    let n = c.offered.len() / 192;
+    if n > 256 || c.offered.len() != 192 * n {
         return 1;
     }
-    for (event, id) in c.offered.chunks_exact(192).zip(a.out.chunks_exact_mut(32)) {
+    let Some(out) = a.out.get_mut(..32 * n) else { return 10 };
+    for (event, id) in c.offered.chunks_exact(192).zip(out.chunks_exact_mut(32)) {
         id.copy_from_slice(&Portable::id(event.try_into().expect("192 bytes")));
     }
     0

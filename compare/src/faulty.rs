@@ -20,7 +20,7 @@ const fn second(name: &'static str, alter: fn(&Call, &mut Answer)) -> Fault {
 }
 
 #[rustfmt::skip]
-const FAULTS: [Fault; 36] = [
+const FAULTS: [Fault; 43] = [
     fault("verdict 2 shown as 3", |c, a| value(c, a, Kind::Verdict, 2, 3)),
     fault("verdict 0 shown as 1", |c, a| value(c, a, Kind::Verdict, 0, 1)),
     fault("an id not held is waiting", |c, a| if c.kind == Kind::Verdict { number(a, 9, 0, &[0]) }),
@@ -33,7 +33,7 @@ const FAULTS: [Fault; 36] = [
     fault("a join too long is stored", |c, a| if c.kind == Kind::Take { number(a, 6, 0, &[0]) }),
     fault("a bad bundle offers nothing", |_, a| number(a, 8, 0, &[0, 0, 0])),
     fault("a repeat shown as stored", |c, a| value(c, a, Kind::Take, 1, 0)),
-    fault("a refused start gives a count", |c, a| if c.kind == Kind::Start && a.number > 0 { a.values[0] = 0 }),
+    fault("a refused start leaves the count", |c, a| if c.kind == Kind::Start && a.number > 0 { a.count = c.count }),
     fault("a write outside", |c, a| if good(c, a, Kind::Map) { a.strayed = true }),
     fault("7 for a held event", |c, a| if taken(c, a, 1) && c.count == 256 { refuse(a, 7) }),
     fault("the count not raised", |c, a| if taken(c, a, 0) { a.count = c.count }),
@@ -52,8 +52,15 @@ const FAULTS: [Fault; 36] = [
     fault("a refusal writes its number", |c, a| if c.kind == Kind::WriteOut && a.number > 0 { a.values[0] = 0 }),
     fault("a refusal writes the output", |_, a| if a.number > 0 && !a.out.is_empty() { a.out[0] ^= 1 }),
     fault("one byte of text more", |c, a| if good(c, a, Kind::Text) { a.values[0] += 1 }),
+    fault("a short text is enough", |c, a| if c.kind == Kind::Text { number(a, 10, 0, &[0]) }),
+    fault("a bundle of no events has a first one", |c, a| if c.kind == Kind::FirstEvent { number(a, 5, 0, &[0]) }),
+    fault("the last event for the first", |c, a| if good(c, a, Kind::FirstEvent) { a.values[0] = last(c) }),
+    fault("a longer id output refused", |c, a| if longer(c, a, Kind::Id, 32) { a.number = 10 }),
+    fault("a byte past the ids altered", |c, a| if longer(c, a, Kind::Ids, c.offered.len() / 6) { end_flipped(a) }),
+    fault("a short id output is enough", |c, a| if c.kind == Kind::Id { number(a, 10, 0, &[]) }),
+    fault("a short output of ids shown as 1", |c, a| if c.kind == Kind::Ids && a.number == 10 { a.number = 1 }),
     fault("a bit of an id", |c, a| if good(c, a, Kind::Id) { a.out[31] ^= 1 }),
-    fault("the fifth of several ids", |c, a| if good(c, a, Kind::Ids) && a.out.len() > 128 { a.out[128] ^= 1 }),
+    fault("the fifth of several ids", |c, a| if good(c, a, Kind::Ids) && c.offered.len() > 768 { a.out[128] ^= 1 }),
     second("the second unit's order", |c, a| if good(c, a, Kind::Order) { exchange(a, 36) }),
     second("the second unit's map", |c, a| if good(c, a, Kind::Map) { flip_before(a, 8) }),
     second("the second unit's write-out", |c, a| if good(c, a, Kind::WriteOut) { a.out[20] ^= 1 }),
@@ -62,6 +69,16 @@ const FAULTS: [Fault; 36] = [
 /// Whether the call is of a kind and was answered.
 fn good(c: &Call, a: &Answer, kind: Kind) -> bool {
     c.kind == kind && a.number == 0
+}
+
+/// Whether the call is of a kind, was answered and was lent an output longer than it needs.
+fn longer(c: &Call, a: &Answer, kind: Kind, needed: usize) -> bool {
+    good(c, a, kind) && a.out.len() > needed
+}
+
+/// Where the last event of a bundle starts.
+fn last(c: &Call) -> u64 {
+    c.offered.len() as u64 - 204
 }
 
 /// Whether the call is a single take with a value: 0 stored, 1 repeat.
@@ -106,6 +123,13 @@ fn flip_at(a: &mut Answer, row: usize) {
     let end = end(a, row);
     if end < a.out.len() {
         a.out[end] ^= 1;
+    }
+}
+
+/// Alters the output's last byte.
+fn end_flipped(a: &mut Answer) {
+    if let Some(byte) = a.out.last_mut() {
+        *byte ^= 1;
     }
 }
 

@@ -68,7 +68,6 @@ impl Trial<'_> {
         let mut fed = Fed { store, count: 0, tally };
         let a = self.compare(Call { offered: creator.to_vec(), ..fed.call(Kind::Start) });
         fed.keep(&a);
-        fed.count = a.values[0] as usize;
         fed
     }
 
@@ -160,7 +159,7 @@ impl Trial<'_> {
 
     /// A call that reads the unit, of a random kind.
     pub fn reading(&mut self, fed: &Fed) -> Call {
-        let kinds = [Kind::LookUp, Kind::Verdict, Kind::Verdict, Kind::Order, Kind::Map, Kind::WriteOut];
+        let kinds = [Kind::LookUp, Kind::Verdict, Kind::Verdict, Kind::Order, Kind::Map, Kind::WriteOut, Kind::Text];
         let mut call = fed.call(kinds[self.rng.below(kinds.len())]);
         if self.one_in(8) {
             self.poke(&mut call);

@@ -1,7 +1,7 @@
 //! Cases that every run has: each byte of an event, of a small bundle and of a small store altered in turn; each field at
 //! its edges; wrong lengths and counts for every call; a full store; bundles of 0 to 257; outputs one byte too short.
 
-use crate::cases::{Call, Kind, KINDS};
+use crate::cases::{Call, Kind, HOLDING, KINDS};
 use crate::damage;
 use crate::feed::{noise, Fed};
 use crate::reference::make::{bundle, create, grant, id, join, revoke, unplug, Ev};
@@ -66,7 +66,8 @@ fn each_byte_of_event(t: &mut Trial, kind: u8) {
     }
 }
 
-/// Takes a small bundle with each of its bytes altered: a drawing of 5 bytes, three events, the trailer.
+/// Takes a small bundle with each of its bytes altered, and asks for its first event: a drawing of 5 bytes, three events,
+/// the trailer.
 fn each_byte_of_bundle(t: &mut Trial) {
     let fed = small_unit(t);
     let mut whole = noise(&mut t.rng, 5);
@@ -75,6 +76,7 @@ fn each_byte_of_bundle(t: &mut Trial) {
         let mut offered = whole.clone();
         damage::byte(&mut t.rng, &mut offered, at);
         t.seen.bundle_byte(at);
+        t.compare(Call { offered: offered.clone(), ..fed.call(Kind::FirstEvent) });
         t.offer_bundle(&mut fed.clone(), offered);
     }
 }
@@ -84,7 +86,7 @@ fn each_byte_of_store(t: &mut Trial) {
     let fed = small_unit(t);
     let set = small_set();
     for at in 0..3 * 192 {
-        let kind = KINDS[1 + at % 9];
+        let kind = HOLDING[at % HOLDING.len()];
         let mut call = fed.call(kind);
         damage::byte(&mut t.rng, &mut call.store, at);
         call.offered = offered_to(kind, &set);
@@ -150,7 +152,7 @@ fn wrong_places(t: &mut Trial) {
     foreign[31] ^= 1;
     for event in [set[0], create(1), set[1], set[3], long, foreign] {
         for place in 0..3 {
-            for kind in &KINDS[1..10] {
+            for kind in HOLDING {
                 let mut call = fed.call(*kind);
                 call.store[192 * place..192 * place + 192].copy_from_slice(&event);
                 call.offered = offered_to(*kind, &set);
@@ -161,7 +163,7 @@ fn wrong_places(t: &mut Trial) {
     }
 }
 
-/// Bundles of 0, 1, 256 and 257 events, whole and without their first byte.
+/// Bundles of 0, 1, 2, 255, 256 and 257 events, whole and without their first byte: taken, and asked for their first event.
 fn bundles(t: &mut Trial) {
     let mut set = shapes::fan();
     let extra = unplug(0, &id(&set[0]), 9, &[id(&set[0])]);
@@ -169,10 +171,10 @@ fn bundles(t: &mut Trial) {
     let fed = t.start(&set[0]);
     for events in [0, 1, 2, 255, 256, 257] {
         let whole = bundle(&set[..events]);
-        t.offer_bundle(&mut fed.clone(), whole[1..].to_vec());
-        t.offer_bundle(&mut fed.clone(), whole.clone());
-        let out = noise(&mut t.rng, 10_000);
-        t.compare(Call { offered: whole, out, ..fed.call(Kind::Text) });
+        for offered in [whole[1..].to_vec(), whole] {
+            t.compare(Call { offered: offered.clone(), ..fed.call(Kind::FirstEvent) });
+            t.offer_bundle(&mut fed.clone(), offered);
+        }
     }
 }
 
@@ -197,7 +199,7 @@ fn offered_to(kind: Kind, set: &[Ev; 7]) -> Vec<u8> {
         Kind::Start => set[0].to_vec(),
         Kind::Take | Kind::TakeCounted | Kind::Id | Kind::Ids => set[3].to_vec(),
         Kind::TakeBundle | Kind::TakeBundleCounted => bundle(&set[3..5]),
-        Kind::Text => bundle(&set[..]),
+        Kind::FirstEvent => bundle(&set[..]),
         _ => id(&set[1]).to_vec(),
     }
 }
@@ -229,7 +231,7 @@ fn lengths(t: &mut Trial) {
         t.compare(Call { offered: set[1].to_vec(), out, ..fed.call(Kind::Id) });
     }
     for n in [0, 1, 2, 3, 4, 5, 7, 8, 255, 256, 257] {
-        for (events, ids) in [(0, 0), (1, 0), (0, 1), (191, 31), (192, 0), (0, 32)] {
+        for (events, ids) in [(0, 0), (1, 0), (0, 1), (191, 31), (192, 0), (192, 31), (0, 32)] {
             let (offered, out) = (noise(&mut t.rng, 192 * n + events), noise(&mut t.rng, 32 * n + ids));
             t.compare(Call { offered, out, ..fed.call(Kind::Ids) });
         }
@@ -240,7 +242,7 @@ fn lengths(t: &mut Trial) {
 fn counts(t: &mut Trial) {
     let fed = small_unit(t);
     let set = small_set();
-    for kind in &KINDS[1..10] {
+    for kind in HOLDING {
         for count in damage::COUNTS {
             let out = noise(&mut t.rng, 800);
             t.compare(Call { count, offered: offered_to(*kind, &set), out, ..fed.call(*kind) });
@@ -276,7 +278,7 @@ fn outputs(t: &mut Trial) {
         t.feed_bundles(&mut fed, &set[1..], 255);
         let rows = [(Kind::Order, 36), (Kind::Map, 8), (Kind::WriteOut, 1), (Kind::Text, 1)];
         for (kind, row) in rows {
-            let lent = Call { offered: bundle(&set), ..fed.call(kind) };
+            let lent = fed.call(kind);
             let out = noise(&mut t.rng, STORE + 13);
             let enough = t.compare(Call { out, ..lent.clone() });
             let needed = enough.values[0] as usize * row;

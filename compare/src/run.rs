@@ -120,7 +120,8 @@ fn random(t: &mut Trial) {
         let call = t.reading(&fed);
         t.compare(call);
     }
-    printed(t, &set);
+    first_event(t, &set);
+    ids(t, &fed);
 }
 
 /// Several sets, each taken as one bundle: its order and its map.
@@ -162,12 +163,9 @@ fn spoiled(t: &mut Trial, fed: &mut Fed, event: Ev) {
     }
 }
 
-/// The text of a bundle and the id of an event.
-fn printed(t: &mut Trial, set: &[Ev]) {
+/// The first event of a bundle, which may be damaged or have none.
+fn first_event(t: &mut Trial, set: &[Ev]) {
     let mut all = set[..set.len().min(256)].to_vec();
-    if t.one_in(5) {
-        all.rotate_left(1);
-    }
     if t.one_in(5) {
         all.truncate(t.rng.below(2));
     }
@@ -175,15 +173,18 @@ fn printed(t: &mut Trial, set: &[Ev]) {
     if t.one_in(5) {
         damage::bundle(&mut t.rng, &mut offered);
     }
-    let store = noise(&mut t.rng, STORE);
-    let fed = Fed { store, count: 0, tally: [0; 3] };
-    let call = t.with_output(Call { offered, ..fed.call(Kind::Text) });
-    t.compare(call);
-    let offered = noise(&mut t.rng, 192);
-    t.compare(Call { offered, out: vec![0; 32], ..fed.call(Kind::Id) });
+    let (store, tally) = (noise(&mut t.rng, STORE), [0; 3]);
+    t.compare(Call { kind: Kind::FirstEvent, store, count: 0, offered, out: vec![], tally });
+}
+
+/// The id of an event, and of several, to outputs that may be too short or longer.
+fn ids(t: &mut Trial, fed: &Fed) {
     let n = t.rng.below(18);
-    let offered = noise(&mut t.rng, 192 * n);
-    t.compare(Call { offered, out: vec![0; 32 * n], ..fed.call(Kind::Ids) });
+    for (kind, events) in [(Kind::Id, 1), (Kind::Ids, n)] {
+        let offered = noise(&mut t.rng, 192 * events);
+        let call = t.with_output(Call { offered, ..fed.call(kind) });
+        t.compare(call);
+    }
 }
 
 /// Two units that are offered one set in different ways show the same; what one writes, a fresh one takes and writes.

@@ -54,7 +54,7 @@ fn depths(events: &[Ev]) -> Vec<(&'static str, usize)> {
     let (b, asked, last) = (bundle(events), id(&events[200]), events[255]);
     let mut all = vec![];
     let mut say = |name, call: &mut dyn FnMut()| all.push((name, depth(call)));
-    say("start", &mut || assert_eq!(unit::start(&mut s, &events[0]), (0, 1)));
+    say("start", &mut || assert_eq!(unit::start(&mut s, &mut 0, &events[0]), 0));
     say("take", &mut || assert_eq!(unit::take(&mut s, &mut 255, &last), (0, 0)));
     say("take_counted", &mut || assert_eq!(unit::take_counted(&mut s, &mut 255, &last, &mut tally), (0, 0)));
     say("take_bundle", &mut || assert_eq!(unit::take_bundle(&mut s, &mut 1, &b), (0, [255, 1, 0])));
@@ -64,7 +64,8 @@ fn depths(events: &[Ev]) -> Vec<(&'static str, usize)> {
     say("verdict", &mut || assert_eq!(unit::verdict(&store, 256, &asked).0, 0));
     say("map", &mut || assert_eq!(unit::map(&store, 256, &mut out).0, 0));
     say("write_out", &mut || assert_eq!(unit::write_out(&store, 256, &mut out).0, 0));
-    say("text", &mut || assert_eq!(unit::text(&b, &mut s, &mut out).0, 0));
+    say("text", &mut || assert_eq!(unit::text(&store, 256, &mut out).0, 0));
+    say("first_event", &mut || assert_eq!(unit::first_event(&b), (0, 0)));
     say("id", &mut || assert_eq!(unit::id(&last, &mut out[..32]), 0));
     say("ids", &mut || assert_eq!(unit::ids(&store, &mut out[..8192]), 0));
     all
@@ -90,7 +91,7 @@ fn deepest() -> Vec<(&'static str, usize, &'static str)> {
 /// What the frames around a call add: the depth of one that the unit refuses by its first test.
 fn own_frame() -> usize {
     let (mut s, c) = (vec![0; 1], create(0));
-    depth(&mut || assert_eq!(unit::start(&mut s, &c).0, 1))
+    depth(&mut || assert_eq!(unit::start(&mut s, &mut 0, &c), 1))
 }
 
 fn measure() -> bool {

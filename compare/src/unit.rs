@@ -42,9 +42,9 @@ extern "C" {
         store: *const u8, store_len: usize, count: usize, out: *mut u8, out_len: usize, bytes: *mut usize,
     ) -> u8;
     fn pelchunda_text(
-        bundle: *const u8, bundle_len: usize, store: *mut u8, store_len: usize, out: *mut u8, out_len: usize,
-        bytes: *mut usize,
+        store: *const u8, store_len: usize, count: usize, out: *mut u8, out_len: usize, bytes: *mut usize,
     ) -> u8;
+    fn pelchunda_first_event(bundle: *const u8, bundle_len: usize, offset: *mut usize) -> u8;
     fn pelchunda_id(event: *const u8, event_len: usize, id: *mut u8, id_len: usize) -> u8;
     fn pelchunda_ids(events: *const u8, events_len: usize, ids: *mut u8, ids_len: usize) -> u8;
 }
@@ -71,11 +71,9 @@ fn lent_mut(bytes: &mut [u8]) -> *mut u8 {
 // SAFETY, of each call below: every pointer comes from a slice or a reference of this call, lent with the slice's own
 // length; the borrows keep them valid and apart.
 
-/// The number, then the count as the call left it.
-pub fn start(store: &mut [u8], event: &[u8]) -> (u8, usize) {
-    let mut count = UNSET_SIZE;
-    let n = unsafe { pelchunda_start(lent_mut(store), store.len(), lent(event), event.len(), &mut count) };
-    (n, count)
+/// The number.
+pub fn start(store: &mut [u8], count: &mut usize, event: &[u8]) -> u8 {
+    unsafe { pelchunda_start(lent_mut(store), store.len(), lent(event), event.len(), count) }
 }
 
 /// The number, then 0 for stored or 1 for repeat.
@@ -151,13 +149,17 @@ pub fn write_out(store: &[u8], count: usize, out: &mut [u8]) -> (u8, usize) {
 }
 
 /// The number, then the bytes written.
-pub fn text(bundle: &[u8], store: &mut [u8], out: &mut [u8]) -> (u8, usize) {
+pub fn text(store: &[u8], count: usize, out: &mut [u8]) -> (u8, usize) {
     let mut bytes = UNSET_SIZE;
-    let n = unsafe {
-        let (at, len) = (lent_mut(out), out.len());
-        pelchunda_text(lent(bundle), bundle.len(), lent_mut(store), store.len(), at, len, &mut bytes)
-    };
+    let n = unsafe { pelchunda_text(lent(store), store.len(), count, lent_mut(out), out.len(), &mut bytes) };
     (n, bytes)
+}
+
+/// The number, then where the event starts.
+pub fn first_event(bundle: &[u8]) -> (u8, usize) {
+    let mut offset = UNSET_SIZE;
+    let n = unsafe { pelchunda_first_event(lent(bundle), bundle.len(), &mut offset) };
+    (n, offset)
 }
 
 /// The number; the id goes to `id`.

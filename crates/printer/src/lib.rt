@@ -4,9 +4,16 @@ ghost use mathlib.Core.Path.{_≡_};
 ghost use Prim.Native.Nat.{_≤_};
 ghost use lib.ListN.{length, take};
 ghost use Rattle.cords.specs.Cords.{cordLimit};
-ghost use Rattle.printer.specs.Page.{pageOf};
+ghost use Rattle.printer.specs.Page.{heldPage, takenPage, startedPage, pageOf};
 use libc::STDOUT_FILENO;
 use unit::CountAnswer;
+use unit::TakeAnswer;
+
+// What was read of a file: so many bytes, or that a read failed.
+enum FileRead {
+    Bytes(usize),
+    Failed,
+}
 
 // Arrays by their length alone: a long list stays out of the proofs.
 fn file_area() -> [u8; 65537]
@@ -27,6 +34,41 @@ pub fn text_area() -> [u8; 8192]
     [0; 8192]
 }
 
+// Writes the text of the events held, or the line of a refusal, to the front of the output; answers how many bytes that is.
+fn write_held(store: &[u8], count: usize, out: &mut [u8]) -> usize
+    requires { ⌜ 12 ≤ length (now out) ⌝ }
+    ensures { λ r. ⌜ take r (now (out .exit)) ≡ heldPage cordLimit (now (store .entry)) count (now (out .entry)) ⌝ }
+{
+    match unit::text(store, count, out) {
+        CountAnswer::Count(n) => n,
+        CountAnswer::Refused(refusal) => printing::refusal_line(unit::number(refusal), out),
+    }
+}
+
+// Takes the whole file into a started unit, and writes its text. A bundle with a first event is not refused by a unit that was
+// started with it.
+fn write_taken(file: &[u8], store: &mut [u8], count: usize, out: &mut [u8]) -> usize
+    requires { ⌜ 12 ≤ length (now out) ⌝ }
+    ensures { λ r. ⌜ take r (now (out .exit)) ≡ takenPage cordLimit (now (file .entry)) (now (store .entry)) count (now (out .entry)) ⌝ }
+{
+    let taken = unit::take_bundle(store, count, file);
+    write_held(&store[..], taken.count, out)
+}
+
+// Starts a unit with an event of the file.
+fn write_started(file: &[u8], first: &[u8], store: &mut [u8], out: &mut [u8]) -> usize
+    requires { ⌜ 12 ≤ length (now out) ⌝ }
+    ensures { λ r. ⌜ take r (now (out .exit)) ≡ startedPage cordLimit (now (file .entry)) (now (first .entry)) (now (store .entry)) (now (out .entry)) ⌝ }
+{
+    let started = unit::start(store, first);
+    let answer = started.answer;
+    match answer {
+        TakeAnswer::Stored => write_taken(file, store, started.count, out),
+        TakeAnswer::Repeat => write_taken(file, store, started.count, out),
+        TakeAnswer::Refused(refusal) => printing::refusal_line(unit::number(refusal), out),
+    }
+}
+
 // Writes what the program writes for a room.bun of these bytes to the front of the output; answers how many bytes that is.
 // The store is room to work in.
 pub fn page(file: &[u8], store: &mut [u8], out: &mut [u8]) -> usize
@@ -36,10 +78,12 @@ pub fn page(file: &[u8], store: &mut [u8], out: &mut [u8]) -> usize
     if 65536 < file.len() {
         return printing::refusal_line(8, out);
     }
-    match unit::text(file, store, out) {
-        CountAnswer::Count(n) => n,
-        CountAnswer::Refused(refusal) => printing::refusal_line(unit::number(refusal), out),
+    let mut number = 0;
+    let first = unit::first_event(file, &mut number);
+    if number != 0 {
+        return printing::refusal_line(number, out);
     }
+    write_started(file, first, store, out)
 }
 
 // Writes the line of a refusal.
@@ -57,7 +101,25 @@ fn print_bytes(file: &[u8]) {
     io::write_all(STDOUT_FILENO, octets::part(&out, 0, n));
 }
 
-// An absent file is refused here. Of a file one byte more than the limit is read at most, by which `page` tells a longer one.
+// Reads to the end of a file, or until the buffer is full. A read that fails is not taken for the end.
+fn read_file(fd: i32, buf: &mut [u8]) -> FileRead {
+    let mut done = 0;
+    while done < buf.len() {
+        let got = libc::read(fd, &mut buf[done..]);
+        if got < 0 {
+            return FileRead::Failed;
+        }
+        let more = io::count(got, &buf[done..]);
+        if more == 0 {
+            return FileRead::Bytes(done);
+        }
+        done += more;
+    }
+    FileRead::Bytes(done)
+}
+
+// A file that is absent or cannot be read to its end is refused here: a part of a room is not printed for the whole. Of a file one
+// byte more than the limit is read at most, by which `page` tells a longer one.
 pub fn print() {
     let fd = os::open_read(b"room.bun");
     if fd < 0 {
@@ -65,7 +127,10 @@ pub fn print() {
         return;
     }
     let mut file = file_area();
-    let got = io::read_full(fd, &mut file);
+    let read = read_file(fd, &mut file);
     libc::close(fd);
-    print_bytes(octets::part(&file, 0, got));
+    match read {
+        FileRead::Bytes(n) => print_bytes(octets::part(&file, 0, n)),
+        FileRead::Failed => refuse(8),
+    }
 }

@@ -15,6 +15,7 @@ use Rattle.lists.specs.Tests.{keep}
 use Rattle.lists.specs.Chunks.{chunks, length-chunks, chunks-last, flatten-last}
 use Rattle.octets.specs.Octets.{byteAt, be16, part, pasted}
 use Rattle.event.specs.Contents.{cordAt}
+use Rattle.event.specs.Answers.{value, refused}
 use Rattle.model.specs.Output.{overwritten, overwritten-none, overwritten-more}
 use Rattle.printing.specs.Text.{
   lastDigit,
@@ -29,7 +30,6 @@ use Rattle.printing.specs.Text.{
   answerOf,
   outputOf,
 }
-use Rattle.printing.specs.declared.Printed.the-variants.{Bytes as printed, Short as short}
 use Rattle.printing.specs.Steps.{leadingZeros, headOf}
 use Rattle.printing.specs.TextLaws.{decimal-one, decimal-step}
 use Rattle.printing.specs.Sizes.{line-length, lines-length, text-parts, text-length}
@@ -205,7 +205,7 @@ front x o at e = take-at x (drop (length x) o) at (sym e)
 -- `write_text`: a first line that ends at an offset, and what the output then is
 module _ (rows : Bytes) (verdicts : List ℕ) (o : Bytes) (at : ℕ) (size : at ≡ length (headOf (length rows / 8) verdicts)) where
   pub text-short : length o < at + length rows / 8 * 22
-      → (short ≡ answerOf (textOf rows verdicts) o) × (o ≡ outputOf (textOf rows verdicts) o)
+      → (refused 10 ≡ answerOf (textOf rows verdicts) o) × (o ≡ outputOf (textOf rows verdicts) o)
   unfolding answerOf outputOf
   text-short h =
       let e = lt-leb (length (textOf rows verdicts)) (length o) (omega (arith, text-length rows verdicts)) in
@@ -214,7 +214,7 @@ module _ (rows : Bytes) (verdicts : List ℕ) (o : Bytes) (at : ℕ) (size : at 
   pub text-written : (b head d e : Bytes) → at + length rows / 8 * 22 ≤ length o
       → head ≡ overwritten (headOf (length rows / 8) verdicts) b → d ≡ pasted o 0 (part head 0 at)
       → e ≡ pasted d at (flatten (map rowLine (rowsIn rows)))
-      → (printed (at + length rows / 8 * 22) ≡ answerOf (textOf rows verdicts) o) × (e ≡ outputOf (textOf rows verdicts) o)
+      → (value (at + length rows / 8 * 22) ≡ answerOf (textOf rows verdicts) o) × (e ≡ outputOf (textOf rows verdicts) o)
   unfolding answerOf outputOf
   text-written b head d e room qh qd qe =
       let n = length rows / 8 in
@@ -226,6 +226,6 @@ module _ (rows : Bytes) (verdicts : List ℕ) (o : Bytes) (at : ℕ) (size : at 
       let begun = qd ∙ ap (pasted o 0) (ap (take at) qh ∙ front h b at size) in
       let first = written-more h at (written-start o) begun (omega arith) (omega arith) in
       let whole = written-more ls (at + n * 22) first qe (omega (arith, text-length rows verdicts)) room in (
-        rw fits (ap printed (omega (arith, text-length rows verdicts))),
+        rw fits (ap value (omega (arith, text-length rows verdicts))),
         rw fits (whole .text ∙ ap (λ (x : Bytes). overwritten x o) (sym all)),
       )

@@ -1,5 +1,7 @@
 -- The text of the printing program, by document 01's example 12 and the sentences under it.
 use Prim.Native.Nat.{ℕ, zero, suc, _+_, _/_, _%_}
+use native.Mathlib.Omega.{arith}
+use mathlib.Core.Path.{_≡_, refl, ap}
 use mathlib.Core.Bool.{cond}
 use mathlib.Core.List.{List, [], _∷_, _++_, map, flatten}
 use lib.Dec.{eqb, leb, ltb}
@@ -9,6 +11,7 @@ use Rattle.lists.specs.Tests.{keep}
 use Rattle.lists.specs.Chunks.{chunks}
 use Rattle.octets.specs.Octets.{byteAt, be16}
 use Rattle.event.specs.declared.Cord.{Cord}
+use Rattle.event.specs.Answers.{Answer, value, refused}
 use Rattle.event.specs.Contents.{portA, portB, kindA, kindB, cordAt}
 use Rattle.model.specs.Heights.{View}
 use Rattle.model.specs.Verdicts.{verdict}
@@ -106,9 +109,20 @@ rowsIn s = map rowCord (chunks 8 s (length s / 8))
 unfoldable pub textOf : Bytes → List ℕ → Bytes
 textOf rows verdicts = textFrom (howMany 0 verdicts) (howMany 1 verdicts) (howMany 2 verdicts) (rowsIn rows)
 
--- what is answered, and what stands in the output then: a text that does not fit is not begun
-unfoldable pub answerOf : Bytes → Bytes → Printed
-answerOf text out = cond (leb (length text) (length out)) (printed (length text)) short
+-- what is answered, and what stands in the output then: a text that does not fit is not begun (10: "output too short")
+unfoldable pub answerOf : Bytes → Bytes → Answer ℕ
+answerOf text out = cond (leb (length text) (length out)) (value (length text)) (refused 10)
 
 unfoldable pub outputOf : Bytes → Bytes → Bytes
 outputOf text out = cond (leb (length text) (length out)) (overwritten text out) out
+
+-- document 01's answer for each case of the code's
+abbrev pub answerOfPrinted : Printed → Answer ℕ
+answerOfPrinted (printed n) = value n
+answerOfPrinted short = refused 10
+
+pub printed-injective : (a b : Printed) → answerOfPrinted a ≡ answerOfPrinted b → a ≡ b
+printed-injective (printed m) (printed n) e = let same : m ≡ n = cc in ap printed same
+printed-injective (printed m) short e = let z : _≡_ {A = ℕ} 0 1 = cc in absurd (omega arith)
+printed-injective short (printed n) e = let z : _≡_ {A = ℕ} 0 1 = cc in absurd (omega arith)
+printed-injective short short e = refl

@@ -22,6 +22,7 @@ ghost use Rattle.printing.specs.Text.{
   textOf,
   answerOf,
   outputOf,
+  answerOfPrinted,
 };
 ghost use Rattle.printing.specs.Steps.{leadingZeros, headOf};
 
@@ -219,7 +220,7 @@ fn write_counts(out: &mut [u8], links: u16, verdicts: &[u16]) -> usize
 // Writes the text of the map call's rows and of one verdict an event to the front of the output, where it has room for all of it.
 pub fn write_text(rows: &[u8], verdicts: &[u16], out: &mut [u8]) -> Printed
     requires { ⌜ (length (now rows) ≤ 2048) × (length (now verdicts) ≤ 256) ⌝ }
-    ensures { λ r. ⌜ r ≡ answerOf (textOf (now (rows .entry)) (now (verdicts .entry))) (now (out .entry)) ⌝ }
+    ensures { λ r. ⌜ answerOfPrinted r ≡ answerOf (textOf (now (rows .entry)) (now (verdicts .entry))) (now (out .entry)) ⌝ }
     ensures { λ _. ⌜ now (out .exit) ≡ outputOf (textOf (now (rows .entry)) (now (verdicts .entry))) (now (out .entry)) ⌝ }
 {
     let n = rows.len() / 8;

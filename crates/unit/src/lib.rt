@@ -16,6 +16,7 @@ pub use takes::BundleTaken;
 pub use takes::TakeAnswer;
 pub use takes::Taken;
 pub use takes::Tally;
+pub use takes::first_event;
 pub use takes::start;
 pub use takes::take;
 pub use takes::take_bundle;

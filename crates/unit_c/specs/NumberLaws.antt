@@ -4,9 +4,8 @@ use native.Mathlib.Omega.{arith}
 use mathlib.Core.Path.{_≡_, refl}
 use mathlib.Core.Bool.{Bool, true, _&&_}
 use mathlib.Core.Option.{some, Option·none-ne-some, Option·some-injective}
-use mathlib.Core.List.{List, [], _∷_, _++_}
-use lib.Dec.{ltb, leb}
-use lib.ListN.{length}
+use mathlib.Core.List.{List, [], _∷_}
+use lib.Dec.{ltb}
 use borrow.Author.Tests.{ltb-true}
 use Rattle.lists.specs.Cases.{byBool, byOption, and→}
 use Rattle.lists.specs.Bytes.{Bytes}
@@ -31,9 +30,9 @@ use Rattle.model.specs.Rows.{orderBytes, mapBytes, writtenBytes}
 use Rattle.store.specs.LookUp.{heldIds, lookUpTests, lookUpOf}
 use Rattle.takes.specs.Takes.{startTests, startOf, takeTests, takeAnswer, takeOf, bundleTests, bundleOf}
 use Rattle.takes.specs.TakeLaws.{take-answers}
-use Rattle.reports.specs.Reports.{heldView, storeTests, writeTests, verdictTests, report, orderOf, mapOf, writtenOf, verdictOf}
-use Rattle.printing.specs.Text.{roomText}
-use Rattle.text.specs.Text.{textTests, heldTextOf, textOf}
+use Rattle.takes.specs.FirstEvent.{firstTests, firstOf}
+use Rattle.reports.specs.Reports.{heldView, writeTests, verdictTests, report, orderOf, mapOf, writtenOf, verdictOf}
+use Rattle.text.specs.Text.{textTests, textOf}
 use Rattle.unit_c.specs.Numbers.{numberIn, idTests, idOf, idsTests, idsOf}
 
 -- no refusal of the code has the number 0
@@ -124,23 +123,18 @@ module _ (entry : ℕ → ℕ → ℕ) (store : Bytes) (count : ℕ) where
     unfolding writtenOf
     write-out-numbered = report-numbered (writes (writtenBytes (heldView store count))) refl _ _ out
 
-    held-text-numbered : numbered (heldTextOf entry store count out .answer) ≡ true
-    unfolding heldTextOf
-    held-text-numbered =
-        let text = roomText (heldView store count) in
-        report-numbered (storeTests entry store count ++ (must 10 (leb (length text) (length out)) ∷ [])) refl _ _ out
+    pub text-numbered : numbered (textOf entry store count out .answer) ≡ true
+    unfolding textOf
+    text-numbered = report-numbered (textTests entry store count out) refl _ _ out
 
 pub start-numbered : (store e : Bytes) → numbered (startOf store e .answer) ≡ true
 unfolding startOf
 start-numbered store e =
     byOption (firstFailed (startTests store e)) (λ p. rw p) (λ n p. rw p (above (startTests store e) refl n p))
 
-pub text-numbered : (entry : ℕ → ℕ → ℕ) (b store out : Bytes) → numbered (textOf entry b store out .answer) ≡ true
-unfolding textOf
-text-numbered entry b store out =
-    byOption (firstFailed (textTests b store))
-    (λ p. rw p (held-text-numbered entry _ _ out))
-    (λ n p. rw p (above (textTests b store) refl n p))
+pub first-numbered : (b : Bytes) → numbered (firstOf b) ≡ true
+unfolding firstOf
+first-numbered b = byOption (firstFailed (firstTests b)) (λ p. rw p) (λ n p. rw p (above (firstTests b) refl n p))
 
 pub id-numbered : (event out : Bytes) → numbered (idOf event out .answer) ≡ true
 unfolding idOf

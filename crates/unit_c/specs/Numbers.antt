@@ -1,5 +1,5 @@
 -- What a call shows to C: a number returned, and numbers behind pointers. The definitions of the calls are those of `takes`, `tally`,
--- `store`, `reports` and `text`; here each answer is turned into numbers.
+-- `store`, `reports` and `text`; here each answer is turned into numbers. The ids of events are defined here.
 use Prim.Native.Nat.{ℕ, _*_, _/_}
 use mathlib.Core.Path.{_≡_, refl}
 use mathlib.Core.Bool.{_&&_}
@@ -39,20 +39,19 @@ tallyIn l = record { new = getD l 0 0; repeats = getD l 1 0; refused = getD l 2 
 pub tally-back : (t : Tally) → tallyIn (figureList t) ≡ t
 tally-back t = refl
 
--- the id of an event: 1 where it has not 192 bytes or the output not 32
+-- the id of an event: 1: "an offered event not 192 bytes"; 10: "output too short"
 abbrev pub idTests : Bytes → Bytes → List Test
-idTests event out = must 1 (eqb (length event) 192 && eqb (length out) 32) ∷ []
+idTests event out = must 1 (eqb (length event) 192) ∷ must 10 (leb 32 (length out)) ∷ []
 
 unfoldable pub idOf : Bytes → Bytes → Report Unit
 idOf event out = report (firstFailed (idTests event out)) tt (sha256 event) out
 
--- the ids of many events, as many as the output has room for: 1 where that is no whole number, more than 256, or not the number of
--- events
+-- the ids of n events, one after another: 1 where they are no whole events or more than 256; 10
 abbrev pub idsTests : Bytes → Bytes → List Test
 idsTests events out =
-    let n = length out / 32 in
-    must 1 (leb (length out) 8192 && (eqb (length out) (n * 32) && eqb (length events) (n * 192))) ∷ []
+    let n = length events / 192 in
+    must 1 (eqb (length events) (n * 192) && leb n 256) ∷ must 10 (leb (n * 32) (length out)) ∷ []
 
 unfoldable pub idsOf : Bytes → Bytes → Report Unit
 idsOf events out =
-    report (firstFailed (idsTests events out)) tt (flatten (map sha256 (chunks 192 events (length out / 32)))) out
+    report (firstFailed (idsTests events out)) tt (flatten (map sha256 (chunks 192 events (length events / 192)))) out

@@ -1,18 +1,18 @@
 // The unit's calls for C: numbers and byte slices, a slice as a pointer and a length. Each function returns 0, or the refusal's
-// number of document 01; what it answers besides goes to numbers behind pointers, which a refusal leaves as they were. Each makes
-// one call of `unit`, or of the crate below it that answers by value, and shows the answer; `include/pelchunda.h` declares them.
+// number of document 01; what it answers besides goes to numbers behind pointers, which a refusal leaves as they were, but for the
+// count of a refused start, which is 0. Each makes one call of `unit`, or of the crate below it that answers by value, and shows the
+// answer; `include/pelchunda.h` declares them.
 ghost use mathlib.Core.Path.{_≡_};
-ghost use mathlib.Core.Bool.{_&&_};
-ghost use Prim.Native.Nat.{_*_, _/_};
-ghost use lib.Dec.{eqb, leb};
 ghost use Rattle.cords.specs.Cords.{cordLimit};
 ghost use Rattle.store.specs.LookUp.{lookUpOf};
 ghost use Rattle.takes.specs.Takes.{answerOfTake, answerOfBundle, startOf, takeOf, counted, bundleOf};
+ghost use Rattle.takes.specs.FirstEvent.{firstOf};
 ghost use Rattle.tally.specs.Tallies.{tallied};
 ghost use Rattle.reports.specs.Reports.{orderOf, verdictOf, mapOf, writtenOf, answerOfCount};
 ghost use Rattle.text.specs.Text.{textOf};
 ghost use Rattle.unit_c.specs.Numbers.{numberIn, kept, placedNumber, figureList, tallyIn, idOf, idsOf};
 use store::FindAnswer;
+use takes::FirstAnswer;
 use unit::BundleAnswer;
 use unit::CountAnswer;
 use unit::MapAnswer;
@@ -83,24 +83,19 @@ fn show_count(answer: CountAnswer, count: &mut usize) -> u8
     }
 }
 
-// Starts a unit with a create event; the count is then 1.
+// Starts a unit with a create event; the count is then 1, and 0 after a refusal.
 #[no_mangle]
 pub extern "C" fn pelchunda_start(store: &mut [u8], event: &[u8], count: &mut usize) -> u8
     ensures { λ r. ⌜ r ≡ numberIn (startOf (now (store .entry)) (now (event .entry)) .answer) ⌝ }
     ensures { λ _. ⌜ now (store .exit) ≡ startOf (now (store .entry)) (now (event .entry)) .store ⌝ }
-    ensures { λ _. ⌜ now (count .exit) ≡ kept (λ _. 1) (now (count .entry)) (startOf (now (store .entry)) (now (event .entry)) .answer) ⌝ }
+    ensures { λ _. ⌜ now (count .exit) ≡ startOf (now (store .entry)) (now (event .entry)) .count ⌝ }
 {
     let started = unit::start(store, event);
+    *count = started.count;
     let answer = started.answer;
     match answer {
-        TakeAnswer::Stored => {
-            *count = 1;
-            0
-        }
-        TakeAnswer::Repeat => {
-            *count = 1;
-            0
-        }
+        TakeAnswer::Stored => 0,
+        TakeAnswer::Repeat => 0,
         TakeAnswer::Refused(refusal) => unit::number(refusal),
     }
 }
@@ -282,57 +277,67 @@ pub extern "C" fn pelchunda_write_out(
     show_count(answer, bytes)
 }
 
-// Builds the room of a bundle in the lent store and writes its text to the output; `bytes` is its length.
+// Writes the text of the events held to the output; `bytes` is its length.
 #[no_mangle]
 pub extern "C" fn pelchunda_text(
-    bundle: &[u8],
-    store: &mut [u8],
+    store: &[u8],
+    count: usize,
     out: &mut [u8],
     bytes: &mut usize,
 ) -> u8
-    ensures { λ r. ⌜ r ≡ numberIn (textOf cordLimit (now (bundle .entry)) (now (store .entry)) (now (out .entry)) .answer) ⌝ }
-    ensures { λ _. ⌜ now (store .exit) ≡ textOf cordLimit (now (bundle .entry)) (now (store .entry)) (now (out .entry)) .store ⌝ }
-    ensures { λ _. ⌜ now (out .exit) ≡ textOf cordLimit (now (bundle .entry)) (now (store .entry)) (now (out .entry)) .out ⌝ }
-    ensures { λ _. ⌜ now (bytes .exit) ≡ kept (λ n. n) (now (bytes .entry)) (textOf cordLimit (now (bundle .entry)) (now (store .entry)) (now (out .entry)) .answer) ⌝ }
+    ensures { λ r. ⌜ r ≡ numberIn (textOf cordLimit (now (store .entry)) count (now (out .entry)) .answer) ⌝ }
+    ensures { λ _. ⌜ now (out .exit) ≡ textOf cordLimit (now (store .entry)) count (now (out .entry)) .out ⌝ }
+    ensures { λ _. ⌜ now (bytes .exit) ≡ kept (λ n. n) (now (bytes .entry)) (textOf cordLimit (now (store .entry)) count (now (out .entry)) .answer) ⌝ }
 {
-    let answer = unit::text(bundle, store, out);
+    let answer = unit::text(store, count, out);
     show_count(answer, bytes)
 }
 
-// Writes the id of an event to `id`: the SHA-256 of its 192 bytes.
+// Where the first event of a bundle starts: its 192 bytes are at that offset.
+#[no_mangle]
+pub extern "C" fn pelchunda_first_event(bundle: &[u8], offset: &mut usize) -> u8
+    ensures { λ r. ⌜ r ≡ numberIn (firstOf (now (bundle .entry))) ⌝ }
+    ensures { λ _. ⌜ now (offset .exit) ≡ kept (λ n. n) (now (offset .entry)) (firstOf (now (bundle .entry))) ⌝ }
+{
+    match takes::find_first(bundle) {
+        FirstAnswer::Offset(at) => {
+            *offset = at;
+            0
+        }
+        FirstAnswer::Refused(refusal) => unit::number(refusal),
+    }
+}
+
+// Writes the id of an event to the front of `id`: the SHA-256 of its 192 bytes.
 #[no_mangle]
 pub extern "C" fn pelchunda_id(event: &[u8], id: &mut [u8]) -> u8
     ensures { λ r. ⌜ r ≡ numberIn (idOf (now (event .entry)) (now (id .entry)) .answer) ⌝ }
     ensures { λ _. ⌜ now (id .exit) ≡ idOf (now (event .entry)) (now (id .entry)) .out ⌝ }
 {
-    if !((event.len() == 192) & (id.len() == 32)) {
+    if event.len() != 192 {
         return 1;
+    }
+    if id.len() < 32 {
+        return 10;
     }
     let digest = sha256::event_id(event);
     octets::paste(id, 0, &digest);
     0
 }
 
-// Whether a table of ids is for as many events as there are, at most 256.
-fn ids_fit(events: usize, ids: usize) -> bool
-    ensures { λ r. ⌜ r ≡ (leb ids 8192 && (eqb ids (ids / 32 * 32) && eqb events (ids / 32 * 192))) ⌝ }
-{
-    if 8192 < ids {
-        return false;
-    }
-    let n = ids / 32;
-    (ids == n * 32) & (events == n * 192)
-}
-
-// Writes the ids of as many events as `ids` has room for, each of 192 bytes, to `ids`: side by side, so in less time than one by one.
+// Writes the ids of at most 256 events, each of 192 bytes, to the front of `ids`: side by side, so in less time than one by one.
 #[no_mangle]
 pub extern "C" fn pelchunda_ids(events: &[u8], ids: &mut [u8]) -> u8
     ensures { λ r. ⌜ r ≡ numberIn (idsOf (now (events .entry)) (now (ids .entry)) .answer) ⌝ }
     ensures { λ _. ⌜ now (ids .exit) ≡ idsOf (now (events .entry)) (now (ids .entry)) .out ⌝ }
 {
-    if !ids_fit(events.len(), ids.len()) {
+    let n = events.len() / 192;
+    if !((events.len() == n * 192) & (n <= 256)) {
         return 1;
     }
-    digests::event_ids(events, ids.len() / 32, ids);
+    if ids.len() < n * 32 {
+        return 10;
+    }
+    digests::event_ids(events, n, ids);
     0
 }

@@ -1,27 +1,110 @@
-use Prim.Native.Nat.{ℕ}
-use Rattle.lists.specs.Bytes.{Bytes}
-use Rattle.takes.specs.Takes.{bundleOf}
-use Rattle.reports.specs.Reports.{Report}
-use Rattle.text.specs.Text.{Printed, heldTextOf}
-use mathlib.Core.Path.{refl, sym, ap, ap₂, _∙_}
+use native.Mathlib.Omega.{arith}
+use mathlib.Core.Path.{sym, ap, _∙_}
+use lib.Seq.{length-take-le}
 use Rattle.cords.specs.Cords.{cordLimit}
-use Rattle.text.specs.Steps.{numberOfBegun, begunStore}
-use Rattle.text.proofs.Laws.{text-refused, text-printed}
+use Rattle.model.specs.StoreLaws.{checked→}
+use Prim.Native.Nat.{ℕ}
+use Rattle.reports.specs.Reports.{Report}
+use Rattle.reports.specs.PreparedLaws.{accepted, declined, settled-few, ready}
+use Rattle.text.proofs.Laws.{text-report, text-refused}
 use borrow.Author.Needs.{needs}
 use Rattle.text.proofs.text.Statement.{statement}
 use Rattle.text.proofs.text.Tie as tie
 
-begin-requires : tie.Need-begin-requires
-begin-requires c κs = search needs
+slice-aggregate-prepare : tie.Need-slice-aggregate-prepare
+slice-aggregate-prepare c = search needs
 
-enum-told : tie.Need-enum-told
-enum-told c = search needs
+slice-aggregate-prepare-2 : tie.Need-slice-aggregate-prepare-2
+slice-aggregate-prepare-2 c = search needs
 
-take-bundle-requires : tie.Need-take-bundle-requires
-take-bundle-requires c κs = search needs
+slice-aggregate-prepare-3 : tie.Need-slice-aggregate-prepare-3
+slice-aggregate-prepare-3 c = search needs
 
-held-text-requires : tie.Need-held-text-requires
-held-text-requires c κs = search needs
+slice-aggregate-prepare-4 : tie.Need-slice-aggregate-prepare-4
+slice-aggregate-prepare-4 c = search needs
+
+slice-aggregate-prepare-5 : tie.Need-slice-aggregate-prepare-5
+slice-aggregate-prepare-5 c = search needs
+
+prepare-requires : tie.Need-prepare-requires
+prepare-requires c κs = search needs
+
+enum-known-settled : tie.Need-enum-known-settled
+enum-known-settled c = search needs
+
+cast-text-places : tie.Need-cast-text-places
+cast-text-places c =
+    let a = c .before .before .before .before .before .before .before .before .before .before .before .before .before .before .before .before .args in
+    let k = c .before .before .before .before .before .before .before .before .prepare in
+    let told = c .before .settled .given .1 in
+    let ok = accepted cordLimit (a .store .now) (a .count) (k .result) _ told (k .ensures .0) in
+    let few = checked→ cordLimit (a .store .now) (a .count) (ok .1) .at-most in omega (arith, few)
+
+slice-aggregate-text-places : tie.Need-slice-aggregate-text-places
+slice-aggregate-text-places c = search needs
+
+slice-aggregate-text-places-2 : tie.Need-slice-aggregate-text-places-2
+slice-aggregate-text-places-2 c = search needs
+
+slice-aggregate-text-places-3 : tie.Need-slice-aggregate-text-places-3
+slice-aggregate-text-places-3 c = search needs
+
+array-share-prefix-levels : tie.Need-array-share-prefix-levels
+array-share-prefix-levels c =
+    let a = c .before .before .before .before .before .before .before .before .before .before .before .before .before .before .before .before .before .before .before .args in
+    let k = c .before .before .before .before .before .before .before .before .before .before .before .prepare in
+    let told = c .before .before .before .before .settled .given .1 in
+    let ok = accepted cordLimit (a .store .now) (a .count) (k .result) _ told (k .ensures .0) in
+    let few = checked→ cordLimit (a .store .now) (a .count) (ok .1) .at-most in omega (arith, k .kept .1 .1 .1 .1 .1 .0, few)
+
+slice-aggregate-text-places-4 : tie.Need-slice-aggregate-text-places-4
+slice-aggregate-text-places-4 c =
+    let a = c .before .before .before .before .before .before .before .before .before .before .before .before .before .before .before .before .before .before .before .before .args in
+    let k = c .before .before .before .before .before .before .before .before .before .before .before .before .prepare in
+    let told = c .before .before .before .before .before .settled .given .1 in
+    let ok = accepted cordLimit (a .store .now) (a .count) (k .result) _ told (k .ensures .0) in
+    let few = checked→ cordLimit (a .store .now) (a .count) (ok .1) .at-most in sym (length-take-le (a .count) (k .last .1 .1 .1 .1 .1 .0) (omega (arith, k .kept .1 .1 .1 .1 .1 .0, few)))
+
+array-share-prefix-places : tie.Need-array-share-prefix-places
+array-share-prefix-places c =
+    let a = c .before .before .before .before .before .before .before .before .before .before .before .before .before .before .before .before .before .before .before .before .args in
+    let k = c .before .before .before .before .before .before .before .before .before .before .before .before .prepare in
+    let told = c .before .before .before .before .before .settled .given .1 in
+    let ok = accepted cordLimit (a .store .now) (a .count) (k .result) _ told (k .ensures .0) in
+    let few = checked→ cordLimit (a .store .now) (a .count) (ok .1) .at-most in omega (arith, k .kept .1 .1 .1 .1 .1 .1 .0, few, settled-few (ok .1) (k .ensures .1 _ told) (omega (arith, k .kept .1 .1 .1 .1 .1 .1 .0, few)))
+
+slice-aggregate-text-places-5 : tie.Need-slice-aggregate-text-places-5
+slice-aggregate-text-places-5 c =
+    let a = c .before .before .before .before .before .before .before .before .before .before .before .before .before .before .before .before .before .before .before .before .before .args in
+    let k = c .before .before .before .before .before .before .before .before .before .before .before .before .before .prepare in
+    let told = c .before .before .before .before .before .before .settled .given .1 in
+    let ok = accepted cordLimit (a .store .now) (a .count) (k .result) _ told (k .ensures .0) in
+    let few = checked→ cordLimit (a .store .now) (a .count) (ok .1) .at-most in sym (length-take-le _ (k .last .1 .1 .1 .1 .1 .1 .0) (omega (arith, k .kept .1 .1 .1 .1 .1 .1 .0, few, settled-few (ok .1) (k .ensures .1 _ told) (omega (arith, k .kept .1 .1 .1 .1 .1 .1 .0, few)))))
+
+array-borrow-prefix-verdicts : tie.Need-array-borrow-prefix-verdicts
+array-borrow-prefix-verdicts c =
+    let a = c .before .before .before .before .before .before .before .before .before .before .before .before .before .before .before .before .before .before .before .before .before .args in
+    let k = c .before .before .before .before .before .before .before .before .before .before .before .before .before .prepare in
+    let told = c .before .before .before .before .before .before .settled .given .1 in
+    let ok = accepted cordLimit (a .store .now) (a .count) (k .result) _ told (k .ensures .0) in
+    let few = checked→ cordLimit (a .store .now) (a .count) (ok .1) .at-most in omega (arith, few)
+
+slice-aggregate-text-places-6 : tie.Need-slice-aggregate-text-places-6
+slice-aggregate-text-places-6 c =
+    let a = c .before .before .before .before .before .before .before .before .before .before .before .before .before .before .before .before .before .before .before .before .before .before .args in
+    let k = c .before .before .before .before .before .before .before .before .before .before .before .before .before .before .prepare in
+    let told = c .before .before .before .before .before .before .before .settled .given .1 in
+    let ok = accepted cordLimit (a .store .now) (a .count) (k .result) _ told (k .ensures .0) in
+    let few = checked→ cordLimit (a .store .now) (a .count) (ok .1) .at-most in sym (length-take-le _ _ (omega (arith, few)))
+
+text-places-requires : tie.Need-text-places-requires
+text-places-requires c κs =
+    let a = c .before .before .before .before .before .before .before .before .before .before .before .before .before .before .before .before .before .before .before .before .before .before .before .args in
+    let k = c .before .before .before .before .before .before .before .before .before .before .before .before .before .before .before .prepare in
+    let told = c .before .before .before .before .before .before .before .before .settled .given .1 in
+    let ok = accepted cordLimit (a .store .now) (a .count) (k .result) _ told (k .ensures .0) in
+    let few = checked→ cordLimit (a .store .now) (a .count) (ok .1) .at-most in
+    (ready (ok .1) (k .ensures .1 _ told) (omega (arith, k .kept .1 .1 .1 .1 .1 .1 .0, few)), (omega (arith, k .kept .1 .1 .1 .0, few), k .kept .1 .1 .1 .1 .0, length-take-le _ _ (omega (arith, few))))
 
 enum-known-refusal : tie.Need-enum-known-refusal
 enum-known-refusal c = search needs
@@ -29,45 +112,46 @@ enum-known-refusal c = search needs
 same-length : tie.Need-same-length
 same-length c = search needs
 
-same-length-2 : tie.Need-same-length-2
-same-length-2 c = search needs
-
 returns : tie.Need-returns
 returns c =
-    let a = c .before .before .before .before .before .before .before .before .before .before .before .before .before .before .before .before .before .before .args in
-    let g = c .before .before .before .before .before .before .before .before .before .before .before .before .before .begin in
-    let k = c .before .before .before .before .before .before .before .take-bundle in
-    let w = c .before .before .held-text .ensures in
-    let taken = bundleOf cordLimit (begunStore (a .bundle .now) (a .store .now)) 1 (a .bundle .now) in
-    let p = text-printed (a .bundle .now) (a .store .now) (a .out .now) (ap numberOfBegun (sym (c .before .before .before .before .before .before .before .before .before .enum-told .given .1)) ∙ g .ensures .0) taken refl in
-    let same-store = k .ensures .1 ∙ ap (λ (s : Bytes). bundleOf cordLimit s 1 (a .bundle .now) .store) (g .ensures .1) in
-    let same-count = k .ensures .0 .1 ∙ ap (λ (s : Bytes). bundleOf cordLimit s 1 (a .bundle .now) .count) (g .ensures .1) in
-    let told = ap₂ (λ (s : Bytes) (n : ℕ). heldTextOf cordLimit s n (a .out .now)) same-store same-count in (
-      w .0 ∙ ap (λ (q : Report ℕ). q .answer) told ∙ sym (ap (λ (q : Printed). q .answer) p),
-      (same-store ∙ sym (ap (λ (q : Printed). q .store) p), w .1 ∙ ap (λ (q : Report ℕ). q .out) told ∙ sym (ap (λ (q : Printed). q .out) p)),
-    )
-
-same-length-3 : tie.Need-same-length-3
-same-length-3 c = search needs
+    let a = c .before .before .before .before .before .before .before .before .before .before .before .before .before .before .before .before .before .before .before .before .before .before .before .before .before .before .before .args in
+    let k = c .before .before .before .before .before .before .before .before .before .before .before .before .before .before .before .before .before .before .before .prepare in
+    let told = c .before .before .before .before .before .before .before .before .before .before .before .before .settled .given .1 in
+    let ok = accepted cordLimit (a .store .now) (a .count) (k .result) _ told (k .ensures .0) in
+    let few = checked→ cordLimit (a .store .now) (a .count) (ok .1) .at-most in
+    let e = text-report (a .store .now) (a .count) (a .out .now) (ok .0) (ok .1) in
+    let w = c .before .before .before .text-places .ensures in
+    (w .0 ∙ ap (λ (q : Report ℕ). q .answer) e, w .1 ∙ ap (λ (q : Report ℕ). q .out) e)
 
 returns-2 : tie.Need-returns-2
 returns-2 c =
-    let a = c .before .before .before .before .before .before .before .before .before .before .args in
-    let g = c .before .before .before .before .before .begin in
-    let r = text-refused (a .bundle .now) (a .store .now) (a .out .now) _ (ap numberOfBegun (sym (c .before .refusal .given .1)) ∙ g .ensures .0) in
-    (r .0, (g .ensures .1 ∙ r .1, r .2))
+    let a = c .before .before .before .before .before .before .before .before .before .before .before .before .before .before .before .before .args in
+    let k = c .before .before .before .before .before .before .before .before .prepare in
+    text-refused (a .store .now) (a .count) _ (a .out .now) (declined cordLimit (a .store .now) (a .count) (k .result) _ (c .before .refusal .given .1) (k .ensures .0))
 
 pub text-spec : {M : Type 1} → statement M
 text-spec =
     tie.close
     (tie.spec
-    begin-requires
-    enum-told
-    take-bundle-requires
-    held-text-requires
+    slice-aggregate-prepare
+    slice-aggregate-prepare-2
+    slice-aggregate-prepare-3
+    slice-aggregate-prepare-4
+    slice-aggregate-prepare-5
+    prepare-requires
+    enum-known-settled
+    cast-text-places
+    slice-aggregate-text-places
+    slice-aggregate-text-places-2
+    slice-aggregate-text-places-3
+    array-share-prefix-levels
+    slice-aggregate-text-places-4
+    array-share-prefix-places
+    slice-aggregate-text-places-5
+    array-borrow-prefix-verdicts
+    slice-aggregate-text-places-6
+    text-places-requires
     enum-known-refusal
     same-length
-    same-length-2
     returns
-    same-length-3
     returns-2)

@@ -11,15 +11,11 @@ show-count-requires c κs = search needs
 same-length : tie.Need-same-length
 same-length c = search needs
 
-same-length-2 : tie.Need-same-length-2
-same-length-2 c = search needs
-
 returns : tie.Need-returns
 returns c =
-    let call = c .before .before .before .before .before .before .text .ensures in
+    let call = c .before .before .before .before .text .ensures in
     let shown = c .show-count .ensures in
-    rw (← call .0) (shown .0, (call .1 .0, (call .1 .1, shown .1)))
+    rw (← call .0) (shown .0, (call .1, shown .1))
 
 pub pelchunda-text-spec : {M : Type 1} → statement M
-pelchunda-text-spec =
-    tie.close (tie.spec text-requires show-count-requires same-length same-length-2 returns)
+pelchunda-text-spec = tie.close (tie.spec text-requires show-count-requires same-length returns)
