@@ -239,7 +239,7 @@ module _ (P l M : List ℕ) (ordered : Ordered P l) (rows : AncestorRows P l M) 
       (λ (e : k ≡ getD l i 0). ancestor-behind i p h (λ r. ancestor-before i r p (omega arith)) (rw e at t))
       (more→ l i h k (rw (← add-one i) at m))))
 
-  -- one and the same for the first i places and for the next
+  -- of the first i places, and of the next
   pub listed-before : (i k p : ℕ) → i < length l → List·Memᴰ k (take (i + 1) l) → bitAt M k p ≡ true → List·Memᴰ p (take i l)
   listed-before i k p h m t =
       ⊎-elim
@@ -257,7 +257,9 @@ pub behind : (store ids : Bytes) (index P l M : List ℕ) (n : ℕ) → Ordered 
     → Behind l (presentedBy store n ids index M) (targetBy store n ids index M)
 behind store ids index P l M n ordered rows =
     record {
-      presents = λ i k h m low. listed-before P l M ordered rows i k (presentedPlace (presentedBy store n ids index M k)) h m (presented-bit store ids index M n k low);
+      presents =
+          λ i k h m low.
+          listed-before P l M ordered rows i k (presentedPlace (presentedBy store n ids index M k)) h m (presented-bit store ids index M n k low);
       names = λ i k t h m e. listed-before P l M ordered rows i k t h m (target-bit store ids index M n k t e);
     }
 

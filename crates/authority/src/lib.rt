@@ -30,7 +30,7 @@ use event::Grant;
 use event::Parsed;
 use store::Slot;
 
-// An ancestor, looked for by its id.
+// An ancestor that was looked for by its id: its place, or that there is none.
 pub enum Ancestor {
     At(u16),
     Nowhere,
@@ -195,7 +195,7 @@ fn on_line(presented: &[u16], left: u16, sought: u16, place: u16) -> bool
     on_line(presented, left - 1, sought, p)
 }
 
-// Whether rights r have the right q; none has the right 0.
+// Whether rights r have the right q; 0 is no right.
 fn has_right(r: u8, q: u8) -> bool
     ensures { λ b. ⌜ b ≡ has r q ⌝ }
 {
@@ -214,7 +214,7 @@ fn lies_within(f: u8, g: u8) -> bool
         & (!has_right(f, 4) | has_right(g, 4))
 }
 
-// The right that an event asks: 2 for a grant, 4 for a revoke, 1 for join and unplug.
+// The right that an event asks: 2 for a grant, 4 for a revoke, 1 for join and unplug. A create asks none: it presents nothing.
 fn right_for(body: Body) -> u8
     ensures { λ r. ⌜ r ≡ rightFor body ⌝ }
 {
@@ -330,7 +330,8 @@ pub fn authorize(
     targets: &mut [u16],
     sound: &mut [u8],
 )
-    requires { ⌜ (n ≤ length (now index)) × Ascending (idAt (now ids)) (take n (now index)) × Ordered (now parents) (now order) × AncestorRows (now parents) (now order) (now rows) ⌝ }
+    requires { ⌜ (n ≤ length (now index)) × Ascending (idAt (now ids)) (take n (now index)) × Ordered (now parents) (now order)
+        × AncestorRows (now parents) (now order) (now rows) ⌝ }
     requires { ⌜ (length (now presented) ≡ 256) × (length (now targets) ≡ 256) × (length (now sound) ≡ 256) ⌝ }
     ensures { λ _. ⌜ PresentedTable (presentedBy (now (store .entry)) n (now (ids .entry)) (now (index .entry)) (now (rows .entry)))
         (now (order .entry)) (now (presented .exit)) ⌝ }
