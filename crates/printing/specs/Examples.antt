@@ -29,20 +29,20 @@ example-text : textFrom 0 0 0 (cordAt 3 7 4 5 12 ∷ []) ≡ first-line ++ secon
 unfolding textFrom headLine field decimal decimalIn rowLine digits flatten
 example-text = refl
 
--- "1023 0000 15 10 10000" and a line feed
+-- the line 1023 0000 15 10 10000
 full-row : rowLine (cordAt 1023 0 15 10 10000)
     ≡ 49 ∷ 48 ∷ 50 ∷ 51 ∷ 32 ∷ 48 ∷ 48 ∷ 48 ∷ 48 ∷ 32 ∷ 49 ∷ 53 ∷ 32 ∷ 49 ∷ 48 ∷ 32 ∷ 49 ∷ 48 ∷ 48 ∷ 48 ∷ 48 ∷ 10 ∷ []
 unfolding rowLine digits
 full-row = refl
 
--- "LINKS 10 WAITING 255 UNSOUND 100 VOID 9" and a line feed
+-- the line LINKS 10 WAITING 255 UNSOUND 100 VOID 9
 longer-head : headLine 10 255 100 9
     ≡ 76 ∷ 73 ∷ 78 ∷ 75 ∷ 83 ∷ 32 ∷ 49 ∷ 48 ∷ 32 ∷ 87 ∷ 65 ∷ 73 ∷ 84 ∷ 73 ∷ 78 ∷ 71 ∷ 32 ∷ 50 ∷ 53 ∷ 53 ∷ 32 ∷ 85 ∷ 78 ∷ 83 ∷ 79
     ∷ 85 ∷ 78 ∷ 68 ∷ 32 ∷ 49 ∷ 48 ∷ 48 ∷ 32 ∷ 86 ∷ 79 ∷ 73 ∷ 68 ∷ 32 ∷ 57 ∷ 10 ∷ []
 unfolding headLine field decimal decimalIn
 longer-head = refl
 
--- "REFUSED 8" and a line feed, "REFUSED 11" and a line feed
+-- the lines REFUSED 8 and REFUSED 11
 example-refusal : refusalLine 8 ≡ 82 ∷ 69 ∷ 70 ∷ 85 ∷ 83 ∷ 69 ∷ 68 ∷ 32 ∷ 56 ∷ 10 ∷ []
 unfolding refusalLine field decimal decimalIn
 example-refusal = refl
