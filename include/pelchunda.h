@@ -8,9 +8,8 @@
  * A slice of bytes is two arguments: a pointer, and a length that has its name
  * and `_len`. Each call returns 0, or the number of a refusal (below). What it
  * answers besides goes to the numbers behind the other pointers. A refused
- * call leaves all that it was lent as it was, but for two things that document
- * 01 names: the count after a refused start is 0, and a refused take raises the
- * tally's refused figure.
+ * call leaves every slice and these numbers as they were; only a start then
+ * gives the count 0, and a take raises its tally's refused figure.
  *
  * What the library guarantees, by proof, for every content and every length of
  * the slices and every count: the call returns, reads and writes nothing but
@@ -247,7 +246,7 @@ uint8_t pelchunda_write_out(const uint8_t *store, size_t store_len, size_t count
  * bytes    the length of the text
  * returns  0, 1, 2 or 10; a refusal leaves out and bytes as they were
  * empty    store: 1; out: 10, where the store is good
- * stack    39,680 bytes
+ * stack    37,632 bytes
  */
 uint8_t pelchunda_text(const uint8_t *store, size_t store_len, size_t count,
                        uint8_t *out, size_t out_len,

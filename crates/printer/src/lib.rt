@@ -45,8 +45,8 @@ fn write_held(store: &[u8], count: usize, out: &mut [u8]) -> usize
     }
 }
 
-// Takes the whole file into a started unit, and writes its text. A bundle with a first event is not refused by a unit that was
-// started with it.
+// Takes the whole file into a started unit, and writes its text. The take is not refused: a file with a first event passes check 8,
+// and a start leaves a store that passes check 2.
 fn write_taken(file: &[u8], store: &mut [u8], count: usize, out: &mut [u8]) -> usize
     requires { ⌜ 12 ≤ length (now out) ⌝ }
     ensures { λ r. ⌜ take r (now (out .exit)) ≡ takenPage cordLimit (now (file .entry)) (now (store .entry)) count (now (out .entry)) ⌝ }
@@ -55,7 +55,7 @@ fn write_taken(file: &[u8], store: &mut [u8], count: usize, out: &mut [u8]) -> u
     write_held(&store[..], taken.count, out)
 }
 
-// Starts a unit with an event of the file.
+// Starts a unit with an event, takes the whole file into it, and writes its text.
 fn write_started(file: &[u8], first: &[u8], store: &mut [u8], out: &mut [u8]) -> usize
     requires { ⌜ 12 ≤ length (now out) ⌝ }
     ensures { λ r. ⌜ take r (now (out .exit)) ≡ startedPage cordLimit (now (file .entry)) (now (first .entry)) (now (store .entry)) (now (out .entry)) ⌝ }
@@ -101,7 +101,8 @@ fn print_bytes(file: &[u8]) {
     io::write_all(STDOUT_FILENO, octets::part(&out, 0, n));
 }
 
-// Reads to the end of a file, or until the buffer is full. A read that fails is not taken for the end.
+// Reads to the end of a file, or until the buffer is full. A read that fails is not taken for the end; one that a signal interrupts
+// fails too.
 fn read_file(fd: i32, buf: &mut [u8]) -> FileRead {
     let mut done = 0;
     while done < buf.len() {

@@ -1,4 +1,4 @@
--- Rows for the text, the answer, and the text of the events held.
+-- Rows for the text, and the text of the events held.
 use Prim.Native.Nat.{ℕ, _+_, _*_, _<_, _≤_}
 use native.Mathlib.Omega.{arith}
 use mathlib.Core.Path.{_≡_, refl, sym, ap, _∙_}
@@ -34,7 +34,6 @@ use Rattle.reports.specs.Reports.{heldView, storeTests}
 use Rattle.reports.specs.Prepared.{Ready}
 use Rattle.reports.specs.Lifted.{machine-is}
 use Rattle.text.specs.Text.{textOf}
-use Rattle.text.specs.Steps.{bytesReport}
 
 -- ── rows ────────────────────────────────────────────────────────────────────────────────────────────────────────────────
 
@@ -65,13 +64,6 @@ unfolding overwritten
 rows-front links n rows₀ rows e q =
     ap (take (n * 8)) q ∙ take-at (rowBytes links) (drop (length (rowBytes links)) rows₀) (n * 8) (omega (arith, row-bytes-size links, e))
 
--- ── the answer ──────────────────────────────────────────────────────────────────────────────────────────────────────────
-
--- what was answered and left is the report
-pub reported : (text out : Bytes) → (answerOf text out ≡ bytesReport text out .answer) × (outputOf text out ≡ bytesReport text out .out)
-unfolding answerOf outputOf bytesReport
-reported text out = byBool (leb (length text) (length out)) (λ t. rw t (refl, refl)) (λ f. rw f (refl, refl))
-
 -- ── the events held ─────────────────────────────────────────────────────────────────────────────────────────────────────
 
 -- a table of verdicts has one entry for each event held
@@ -99,9 +91,13 @@ text-same {store} {n} {ids} {index} {above} {levels} {l} {Z} r judged long ran e
 
 -- the text, by checks 1 and 2
 pub text-report : (store : Bytes) (n : ℕ) (out : Bytes) → length store ≡ 49152 → storeGood cordLimit store n ≡ true
-    → bytesReport (roomText (heldView store n)) out ≡ textOf cordLimit store n out
-unfolding bytesReport textOf
-text-report store n out size good = rw (eq-eqb (length store) 49152 size, good)
+    → let text = roomText (heldView store n) in
+    (answerOf text out ≡ textOf cordLimit store n out .answer) × (outputOf text out ≡ textOf cordLimit store n out .out)
+unfolding answerOf outputOf textOf
+text-report store n out size good =
+    byBool (leb (length (roomText (heldView store n))) (length out))
+    (λ t. rw (eq-eqb (length store) 49152 size, good, t) (refl, refl))
+    (λ f. rw (eq-eqb (length store) 49152 size, good, f) (refl, refl))
 
 pub text-refused : (store : Bytes) (n j : ℕ) (out : Bytes) → some j ≡ firstFailed (storeTests cordLimit store n)
     → (refused j ≡ textOf cordLimit store n out .answer) × (out ≡ textOf cordLimit store n out .out)

@@ -1,10 +1,8 @@
 use native.Mathlib.Omega.{arith}
-use mathlib.Core.Path.{sym, ap, _∙_}
+use mathlib.Core.Path.{sym, _∙_}
 use lib.Seq.{length-take-le}
 use Rattle.cords.specs.Cords.{cordLimit}
 use Rattle.model.specs.StoreLaws.{checked→}
-use Prim.Native.Nat.{ℕ}
-use Rattle.reports.specs.Reports.{Report}
 use Rattle.reports.specs.PreparedLaws.{accepted, declined, settled-few, ready}
 use Rattle.text.proofs.Laws.{text-report, text-refused}
 use borrow.Author.Needs.{needs}
@@ -121,7 +119,7 @@ returns c =
     let few = checked→ cordLimit (a .store .now) (a .count) (ok .1) .at-most in
     let e = text-report (a .store .now) (a .count) (a .out .now) (ok .0) (ok .1) in
     let w = c .before .before .before .text-places .ensures in
-    (w .0 ∙ ap (λ (q : Report ℕ). q .answer) e, w .1 ∙ ap (λ (q : Report ℕ). q .out) e)
+    (w .0 ∙ e .0, w .1 ∙ e .1)
 
 returns-2 : tie.Need-returns-2
 returns-2 c =

@@ -6,8 +6,7 @@ use mathlib.Core.Path.{sym, ap, _∙_}
 use lib.ListN.{length}
 use lib.Seq.{length-take-le}
 use Rattle.cabling.specs.Ports.{machineOf}
-use Rattle.cabling.specs.Rows.{rowBytes}
-use Rattle.text.proofs.Laws.{links-few, rows-front, reported}
+use Rattle.text.proofs.Laws.{links-few, rows-front}
 use borrow.Author.Needs.{needs}
 use Rattle.text.proofs.text_effective.Statement.{statement}
 use Rattle.text.proofs.text_effective.Tie as tie
@@ -86,9 +85,8 @@ returns c =
     let front = rows-front (m .links) (w .result) _ (w .last .1 .1 .0) count (w .ensures .1 (m .links) shown room) in
     let same = ap (λ (x : Bytes). textOf x (a .args .verdicts .now)) front in
     let k = c .before .before .before .before .before .write-text in
-    let r = reported (textOf (rowBytes (m .links)) (a .args .verdicts .now)) (a .args .out .now) in
     let size = ap answerOfPrinted (sym (c .before .size .given .1)) in
-    (size ∙ k .ensures .0 ∙ ap (λ (x : Bytes). answerOf x (a .args .out .now)) same ∙ r .0, k .ensures .1 ∙ ap (λ (x : Bytes). outputOf x (a .args .out .now)) same ∙ r .1)
+    (size ∙ k .ensures .0 ∙ ap (λ (x : Bytes). answerOf x (a .args .out .now)) same, k .ensures .1 ∙ ap (λ (x : Bytes). outputOf x (a .args .out .now)) same)
 
 same-length-2 : tie.Need-same-length-2
 same-length-2 c = search needs
@@ -105,9 +103,8 @@ returns-2 c =
     let front = rows-front (m .links) (w .result) _ (w .last .1 .1 .0) count (w .ensures .1 (m .links) shown room) in
     let same = ap (λ (x : Bytes). textOf x (a .args .verdicts .now)) front in
     let k = c .before .before .before .before .write-text in
-    let r = reported (textOf (rowBytes (m .links)) (a .args .verdicts .now)) (a .args .out .now) in
     let short = ap answerOfPrinted (sym (c .enum-told .given .1)) in
-    (short ∙ k .ensures .0 ∙ ap (λ (x : Bytes). answerOf x (a .args .out .now)) same ∙ r .0, k .ensures .1 ∙ ap (λ (x : Bytes). outputOf x (a .args .out .now)) same ∙ r .1)
+    (short ∙ k .ensures .0 ∙ ap (λ (x : Bytes). answerOf x (a .args .out .now)) same, k .ensures .1 ∙ ap (λ (x : Bytes). outputOf x (a .args .out .now)) same)
 
 pub text-effective-spec : {M : Type 1} → statement M
 text-effective-spec =

@@ -4,7 +4,7 @@ use Rattle.lists.specs.Tests.{allOf}
 use Rattle.cords.specs.Cords.{cordLimit}
 use Rattle.model.specs.StoreLaws.{checked→}
 use Rattle.cabling.specs.Ports.{mayRun}
-use Rattle.text.specs.Steps.{bytesReport}
+use Rattle.printing.specs.Text.{answerOf, outputOf}
 use native.Mathlib.Omega.{arith}
 use mathlib.Core.Path.{sym, ap, _∙_}
 use lib.Seq.{length-take-le}
@@ -58,7 +58,7 @@ returns c =
     let v = c .before .before .before .before .before .before .before .before .before .before .before .before .held-verdicts in
     let e = text-same (a .pre .0) (v .ensures) (v .kept .1 .1 .1 .1 .1 .1 .1 .0 ∙ a .pre .1 .2) _ (c .before .before .before .before .before .before .before .put-rank .ensures .1) in
     let w = c .before .before .text-effective .ensures in
-    (w .0 ∙ ap (λ (x : Bytes). bytesReport x (a .args .out .now) .answer) e, w .1 ∙ ap (λ (x : Bytes). bytesReport x (a .args .out .now) .out) e)
+    (w .0 ∙ ap (λ (x : Bytes). answerOf x (a .args .out .now)) e, w .1 ∙ ap (λ (x : Bytes). outputOf x (a .args .out .now)) e)
 
 pub text-places-spec : {M : Type 1} → statement M
 text-places-spec =
