@@ -185,7 +185,7 @@ uint8_t pelchunda_look_up(const uint8_t *store, size_t store_len, size_t count,
  * rows     the number of rows
  * returns  0, 1, 2, 10 or 11; a refusal leaves out and rows as they were
  * empty    store: 1; out: 10, where the store is good
- * stack    33,024 bytes
+ * stack    40,064 bytes
  */
 uint8_t pelchunda_order(const uint8_t *store, size_t store_len, size_t count,
                         uint8_t *out, size_t out_len,
@@ -198,7 +198,7 @@ uint8_t pelchunda_order(const uint8_t *store, size_t store_len, size_t count,
  * verdict  0 waiting, 1 unsound, 2 void, 3 effective
  * returns  0, 1, 2, 9 or 11; a refusal leaves verdict as it was
  * empty    store or id: 1
- * stack    33,024 bytes
+ * stack    40,064 bytes
  */
 uint8_t pelchunda_verdict(const uint8_t *store, size_t store_len, size_t count,
                           const uint8_t *id, size_t id_len,
@@ -217,7 +217,7 @@ uint8_t pelchunda_verdict(const uint8_t *store, size_t store_len, size_t count,
  *          they were
  * empty    store: 1; out, where the store is good: 10, or 0 where no link
  *          stands
- * stack    35,584 bytes
+ * stack    42,752 bytes
  */
 uint8_t pelchunda_map(const uint8_t *store, size_t store_len, size_t count,
                       uint8_t *out, size_t out_len,
@@ -246,7 +246,7 @@ uint8_t pelchunda_write_out(const uint8_t *store, size_t store_len, size_t count
  * bytes    the length of the text
  * returns  0, 1, 2 or 10; a refusal leaves out and bytes as they were
  * empty    store: 1; out: 10, where the store is good
- * stack    37,632 bytes
+ * stack    44,800 bytes
  */
 uint8_t pelchunda_text(const uint8_t *store, size_t store_len, size_t count,
                        uint8_t *out, size_t out_len,
