@@ -7,22 +7,22 @@ use lib.ListN.{length, take, drop}
 use lib.Seq.{take-at}
 use Rattle.lists.specs.Cases.{byBool}
 use Rattle.lists.specs.Bytes.{Bytes}
-use Rattle.event.specs.Answers.{Answer, value, refused}
+use Rattle.event.specs.Answers.{Answer, value, refused, shownNumber}
 use Rattle.model.specs.Bundle.{trailerAt, distanceIn, countIn, bundleGood}
 use Rattle.model.specs.Output.{overwritten}
-use Rattle.takes.specs.FirstEvent.{firstOf, firstNumber}
+use Rattle.takes.specs.FirstEvent.{firstOf}
 
 pub taken-written : (bytes out done : Bytes) (n : ℕ) → n ≡ length bytes → done ≡ overwritten bytes out → take n done ≡ bytes
 unfolding overwritten
 taken-written bytes out done n e p = ap (take n) p ∙ take-at bytes (drop (length bytes) out) n (sym e)
 
 -- a number that goes with a first event, other than 0, is its refusal's
-pub first-refused : (a : Answer ℕ) (n : ℕ) → n ≡ firstNumber a → (n ≡ 0 → ⊥) → a ≡ refused n
+pub first-refused : (a : Answer ℕ) (n : ℕ) → n ≡ shownNumber a → (n ≡ 0 → ⊥) → a ≡ refused n
 first-refused (value at) n e h = absurd (h e)
 first-refused (refused k) n e h = ap refused (sym e)
 
 -- with 0 there is one
-pub first-given : (b : Bytes) → firstNumber (firstOf b) ≡ 0 → firstOf b ≡ value (trailerAt b - distanceIn b)
+pub first-given : (b : Bytes) → shownNumber (firstOf b) ≡ 0 → firstOf b ≡ value (trailerAt b - distanceIn b)
 unfolding firstOf
 first-given b e =
     byBool (bundleGood b)

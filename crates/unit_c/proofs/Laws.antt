@@ -13,11 +13,12 @@ use Rattle.lists.specs.Chunks.{chunks, length-chunks, chunks-determine, AllOfLe
 use Rattle.octets.specs.Octets.{pasted}
 use Rattle.sha256.specs.Sha256.{sha256, sha256-length}
 use Rattle.model.specs.Output.{overwritten, overwritten-more}
-use Rattle.unit_c.specs.Numbers.{numberIn, idOf, idsOf}
+use Rattle.event.specs.Answers.{shownNumber}
+use Rattle.unit_c.specs.Numbers.{idOf, idsOf}
 
 -- what was pasted at the front is what the definition writes
 pub id-written : (event out digest o : Bytes) → length event ≡ 192 → 32 ≤ length out → length digest ≡ 32
-    → digest ≡ sha256 event → o ≡ pasted out 0 digest → (0 ≡ numberIn (idOf event out .answer)) × (o ≡ idOf event out .out)
+    → digest ≡ sha256 event → o ≡ pasted out 0 digest → (0 ≡ shownNumber (idOf event out .answer)) × (o ≡ idOf event out .out)
 unfolding idOf overwritten
 id-written event out digest o long room size e p =
     rw (eq-eqb (length event) 192 long, le-leb 32 (length out) room, ← e) (refl, p ∙ overwritten-more [] digest out (omega arith))
@@ -36,7 +37,7 @@ module _ (events out : Bytes) where
       ap length (sym (w .2)) ∙ sha256-length (w .0)
 
   pub ids-written : (o : Bytes) → (eqb (length events) (n * 192) && leb n 256) ≡ true → n * 32 ≤ length out
-      → chunks 32 o n ≡ made → drop (n * 32) o ≡ drop (n * 32) out → (0 ≡ numberIn (idsOf events out .answer)) × (o ≡ idsOf events out .out)
+      → chunks 32 o n ≡ made → drop (n * 32) o ≡ drop (n * 32) out → (0 ≡ shownNumber (idsOf events out .answer)) × (o ≡ idsOf events out .out)
   unfolding idsOf overwritten
   ids-written o whole room e rest =
       let many : length made ≡ n = length-map (chunks 192 events n) sha256 ∙ length-chunks 192 events n in

@@ -10,7 +10,7 @@ use borrow.Author.Tests.{ltb-true}
 use Rattle.lists.specs.Cases.{byBool, byOption, and→}
 use Rattle.lists.specs.Bytes.{Bytes}
 use Rattle.lists.specs.Tests.{memberOf}
-use Rattle.event.specs.Answers.{Answer, value, refused, numberOf, Test, must, firstFailed}
+use Rattle.event.specs.Answers.{Answer, value, refused, numberOf, shownNumber, Test, must, firstFailed}
 use Rattle.event.specs.declared.Refusal.{Refusal}
 use Rattle.event.specs.declared.Refusal.the-variants.{
   WrongLength,
@@ -33,7 +33,7 @@ use Rattle.takes.specs.TakeLaws.{take-answers}
 use Rattle.takes.specs.FirstEvent.{firstTests, firstOf}
 use Rattle.reports.specs.Reports.{heldView, writeTests, verdictTests, report, orderOf, mapOf, writtenOf, verdictOf}
 use Rattle.text.specs.Text.{textTests, textOf}
-use Rattle.unit_c.specs.Numbers.{numberIn, idTests, idOf, idsTests, idsOf}
+use Rattle.unit_c.specs.Numbers.{idTests, idOf, idsTests, idsOf}
 
 -- no refusal of the code has the number 0
 pub number-positive : (k : Refusal) → 1 ≤ numberOf k
@@ -55,7 +55,7 @@ numbered (value a) = true
 numbered (refused n) = ltb 0 n
 
 -- an answer that returns 0 then has a value
-pub zero-is-value : {A : Type 0} (a : Answer A) → numbered a ≡ true → numberIn a ≡ 0 → (x : A) × (a ≡ value x)
+pub zero-is-value : {A : Type 0} (a : Answer A) → numbered a ≡ true → shownNumber a ≡ 0 → (x : A) × (a ≡ value x)
 zero-is-value (value x) p e = (x, refl)
 zero-is-value (refused n) p e = absurd (omega (arith, ltb-true 0 n p))
 

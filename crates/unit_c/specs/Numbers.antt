@@ -14,11 +14,6 @@ use Rattle.takes.specs.declared.Tally.{Tally}
 use Rattle.takes.specs.Takes.{Placed, stored, repeat}
 use Rattle.reports.specs.Reports.{Report, report}
 
--- the number returned: 0 where there is a value, else the refusal's
-abbrev pub numberIn : {A : Type 0} → Answer A → ℕ
-numberIn (value a) = 0
-numberIn (refused n) = n
-
 -- what a pointer shows after a call: the value, or what it showed before
 abbrev pub kept : {A B : Type 0} → (A → B) → B → Answer A → B
 kept shown before (value a) = shown a

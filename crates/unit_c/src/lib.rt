@@ -4,13 +4,14 @@
 // answer; `include/pelchunda.h` declares them.
 ghost use mathlib.Core.Path.{_≡_};
 ghost use Rattle.cords.specs.Cords.{cordLimit};
+ghost use Rattle.event.specs.Answers.{shownNumber};
 ghost use Rattle.store.specs.LookUp.{lookUpOf};
 ghost use Rattle.takes.specs.Takes.{answerOfTake, answerOfBundle, startOf, takeOf, counted, bundleOf};
 ghost use Rattle.takes.specs.FirstEvent.{firstOf};
 ghost use Rattle.tally.specs.Tallies.{tallied};
 ghost use Rattle.reports.specs.Reports.{orderOf, verdictOf, mapOf, writtenOf, answerOfCount};
 ghost use Rattle.text.specs.Text.{textOf};
-ghost use Rattle.unit_c.specs.Numbers.{numberIn, kept, placedNumber, figureList, tallyIn, idOf, idsOf};
+ghost use Rattle.unit_c.specs.Numbers.{kept, placedNumber, figureList, tallyIn, idOf, idsOf};
 use store::FindAnswer;
 use takes::FirstAnswer;
 use unit::BundleAnswer;
@@ -22,7 +23,7 @@ use unit::VerdictAnswer;
 
 // A take's answer: `repeat` is 0 where the event was stored, 1 where its id is held already.
 fn show_placed(answer: TakeAnswer, repeat: &mut u8) -> u8
-    ensures { λ r. ⌜ r ≡ numberIn (answerOfTake answer) ⌝ }
+    ensures { λ r. ⌜ r ≡ shownNumber (answerOfTake answer) ⌝ }
     ensures { λ _. ⌜ now (repeat .exit) ≡ kept placedNumber (now (repeat .entry)) (answerOfTake answer) ⌝ }
 {
     match answer {
@@ -57,7 +58,7 @@ fn to_figures(t: Tally) -> [u32; 3]
 
 // A bundle's answer: its three figures.
 fn show_figures(answer: BundleAnswer, figures: &mut [u32; 3]) -> u8
-    ensures { λ r. ⌜ r ≡ numberIn (answerOfBundle answer) ⌝ }
+    ensures { λ r. ⌜ r ≡ shownNumber (answerOfBundle answer) ⌝ }
     ensures { λ _. ⌜ now (figures .exit) ≡ kept figureList (now (figures .entry)) (answerOfBundle answer) ⌝ }
 {
     match answer {
@@ -71,7 +72,7 @@ fn show_figures(answer: BundleAnswer, figures: &mut [u32; 3]) -> u8
 
 // An answer that is one number.
 fn show_count(answer: CountAnswer, count: &mut usize) -> u8
-    ensures { λ r. ⌜ r ≡ numberIn (answerOfCount answer) ⌝ }
+    ensures { λ r. ⌜ r ≡ shownNumber (answerOfCount answer) ⌝ }
     ensures { λ _. ⌜ now (count .exit) ≡ kept (λ n. n) (now (count .entry)) (answerOfCount answer) ⌝ }
 {
     match answer {
@@ -86,7 +87,7 @@ fn show_count(answer: CountAnswer, count: &mut usize) -> u8
 // Starts a unit with a create event; the count is then 1, and 0 after a refusal.
 #[no_mangle]
 pub extern "C" fn pelchunda_start(store: &mut [u8], event: &[u8], count: &mut usize) -> u8
-    ensures { λ r. ⌜ r ≡ numberIn (startOf (now (store .entry)) (now (event .entry)) .answer) ⌝ }
+    ensures { λ r. ⌜ r ≡ shownNumber (startOf (now (store .entry)) (now (event .entry)) .answer) ⌝ }
     ensures { λ _. ⌜ now (store .exit) ≡ startOf (now (store .entry)) (now (event .entry)) .store ⌝ }
     ensures { λ _. ⌜ now (count .exit) ≡ startOf (now (store .entry)) (now (event .entry)) .count ⌝ }
 {
@@ -108,7 +109,7 @@ pub extern "C" fn pelchunda_take(
     event: &[u8],
     repeat: &mut u8,
 ) -> u8
-    ensures { λ r. ⌜ r ≡ numberIn (takeOf cordLimit (now (store .entry)) (now (count .entry)) (now (event .entry)) .answer) ⌝ }
+    ensures { λ r. ⌜ r ≡ shownNumber (takeOf cordLimit (now (store .entry)) (now (count .entry)) (now (event .entry)) .answer) ⌝ }
     ensures { λ _. ⌜ now (store .exit) ≡ takeOf cordLimit (now (store .entry)) (now (count .entry)) (now (event .entry)) .store ⌝ }
     ensures { λ _. ⌜ now (count .exit) ≡ takeOf cordLimit (now (store .entry)) (now (count .entry)) (now (event .entry)) .count ⌝ }
     ensures { λ _. ⌜ now (repeat .exit) ≡ kept placedNumber (now (repeat .entry)) (takeOf cordLimit (now (store .entry)) (now (count .entry)) (now (event .entry)) .answer) ⌝ }
@@ -128,7 +129,7 @@ pub extern "C" fn pelchunda_take_counted(
     repeat: &mut u8,
     tally: &mut [u32; 3],
 ) -> u8
-    ensures { λ r. ⌜ r ≡ numberIn (takeOf cordLimit (now (store .entry)) (now (count .entry)) (now (event .entry)) .answer) ⌝ }
+    ensures { λ r. ⌜ r ≡ shownNumber (takeOf cordLimit (now (store .entry)) (now (count .entry)) (now (event .entry)) .answer) ⌝ }
     ensures { λ _. ⌜ now (store .exit) ≡ takeOf cordLimit (now (store .entry)) (now (count .entry)) (now (event .entry)) .store ⌝ }
     ensures { λ _. ⌜ now (count .exit) ≡ takeOf cordLimit (now (store .entry)) (now (count .entry)) (now (event .entry)) .count ⌝ }
     ensures { λ _. ⌜ now (repeat .exit) ≡ kept placedNumber (now (repeat .entry)) (takeOf cordLimit (now (store .entry)) (now (count .entry)) (now (event .entry)) .answer) ⌝ }
@@ -152,7 +153,7 @@ pub extern "C" fn pelchunda_take_bundle(
     bundle: &[u8],
     figures: &mut [u32; 3],
 ) -> u8
-    ensures { λ r. ⌜ r ≡ numberIn (bundleOf cordLimit (now (store .entry)) (now (count .entry)) (now (bundle .entry)) .answer) ⌝ }
+    ensures { λ r. ⌜ r ≡ shownNumber (bundleOf cordLimit (now (store .entry)) (now (count .entry)) (now (bundle .entry)) .answer) ⌝ }
     ensures { λ _. ⌜ now (store .exit) ≡ bundleOf cordLimit (now (store .entry)) (now (count .entry)) (now (bundle .entry)) .store ⌝ }
     ensures { λ _. ⌜ now (count .exit) ≡ bundleOf cordLimit (now (store .entry)) (now (count .entry)) (now (bundle .entry)) .count ⌝ }
     ensures { λ _. ⌜ now (figures .exit) ≡ kept figureList (now (figures .entry)) (bundleOf cordLimit (now (store .entry)) (now (count .entry)) (now (bundle .entry)) .answer) ⌝ }
@@ -172,7 +173,7 @@ pub extern "C" fn pelchunda_take_bundle_counted(
     figures: &mut [u32; 3],
     tally: &mut [u32; 3],
 ) -> u8
-    ensures { λ r. ⌜ r ≡ numberIn (bundleOf cordLimit (now (store .entry)) (now (count .entry)) (now (bundle .entry)) .answer) ⌝ }
+    ensures { λ r. ⌜ r ≡ shownNumber (bundleOf cordLimit (now (store .entry)) (now (count .entry)) (now (bundle .entry)) .answer) ⌝ }
     ensures { λ _. ⌜ now (store .exit) ≡ bundleOf cordLimit (now (store .entry)) (now (count .entry)) (now (bundle .entry)) .store ⌝ }
     ensures { λ _. ⌜ now (count .exit) ≡ bundleOf cordLimit (now (store .entry)) (now (count .entry)) (now (bundle .entry)) .count ⌝ }
     ensures { λ _. ⌜ now (figures .exit) ≡ kept figureList (now (figures .entry)) (bundleOf cordLimit (now (store .entry)) (now (count .entry)) (now (bundle .entry)) .answer) ⌝ }
@@ -191,7 +192,7 @@ pub extern "C" fn pelchunda_take_bundle_counted(
 // The place of the held event with an id: its 192 bytes start at 192 times the place.
 #[no_mangle]
 pub extern "C" fn pelchunda_look_up(store: &[u8], count: usize, id: &[u8], place: &mut u16) -> u8
-    ensures { λ r. ⌜ r ≡ numberIn (lookUpOf cordLimit (now (store .entry)) count (now (id .entry))) ⌝ }
+    ensures { λ r. ⌜ r ≡ shownNumber (lookUpOf cordLimit (now (store .entry)) count (now (id .entry))) ⌝ }
     ensures { λ _. ⌜ now (place .exit) ≡ kept (λ p. p) (now (place .entry)) (lookUpOf cordLimit (now (store .entry)) count (now (id .entry))) ⌝ }
 {
     match store::find(store, count, id) {
@@ -211,7 +212,7 @@ pub extern "C" fn pelchunda_order(
     out: &mut [u8],
     rows: &mut usize,
 ) -> u8
-    ensures { λ r. ⌜ r ≡ numberIn (orderOf cordLimit (now (store .entry)) count (now (out .entry)) .answer) ⌝ }
+    ensures { λ r. ⌜ r ≡ shownNumber (orderOf cordLimit (now (store .entry)) count (now (out .entry)) .answer) ⌝ }
     ensures { λ _. ⌜ now (out .exit) ≡ orderOf cordLimit (now (store .entry)) count (now (out .entry)) .out ⌝ }
     ensures { λ _. ⌜ now (rows .exit) ≡ kept (λ n. n) (now (rows .entry)) (orderOf cordLimit (now (store .entry)) count (now (out .entry)) .answer) ⌝ }
 {
@@ -222,7 +223,7 @@ pub extern "C" fn pelchunda_order(
 // The verdict of the held event with an id: 0 waiting, 1 unsound, 2 void, 3 effective.
 #[no_mangle]
 pub extern "C" fn pelchunda_verdict(store: &[u8], count: usize, id: &[u8], verdict: &mut u8) -> u8
-    ensures { λ r. ⌜ r ≡ numberIn (verdictOf cordLimit (now (store .entry)) count (now (id .entry))) ⌝ }
+    ensures { λ r. ⌜ r ≡ shownNumber (verdictOf cordLimit (now (store .entry)) count (now (id .entry))) ⌝ }
     ensures { λ _. ⌜ now (verdict .exit) ≡ kept (λ n. n) (now (verdict .entry)) (verdictOf cordLimit (now (store .entry)) count (now (id .entry))) ⌝ }
 {
     match unit::verdict(store, count, id) {
@@ -244,7 +245,7 @@ pub extern "C" fn pelchunda_map(
     ended: &mut usize,
     joins: &mut usize,
 ) -> u8
-    ensures { λ r. ⌜ r ≡ numberIn (mapOf cordLimit (now (store .entry)) count (now (out .entry)) .answer) ⌝ }
+    ensures { λ r. ⌜ r ≡ shownNumber (mapOf cordLimit (now (store .entry)) count (now (out .entry)) .answer) ⌝ }
     ensures { λ _. ⌜ now (out .exit) ≡ mapOf cordLimit (now (store .entry)) count (now (out .entry)) .out ⌝ }
     ensures { λ _. ⌜ now (rows .exit) ≡ kept (λ f. f .rows) (now (rows .entry)) (mapOf cordLimit (now (store .entry)) count (now (out .entry)) .answer) ⌝ }
     ensures { λ _. ⌜ now (ended .exit) ≡ kept (λ f. f .ended) (now (ended .entry)) (mapOf cordLimit (now (store .entry)) count (now (out .entry)) .answer) ⌝ }
@@ -269,7 +270,7 @@ pub extern "C" fn pelchunda_write_out(
     out: &mut [u8],
     bytes: &mut usize,
 ) -> u8
-    ensures { λ r. ⌜ r ≡ numberIn (writtenOf cordLimit (now (store .entry)) count (now (out .entry)) .answer) ⌝ }
+    ensures { λ r. ⌜ r ≡ shownNumber (writtenOf cordLimit (now (store .entry)) count (now (out .entry)) .answer) ⌝ }
     ensures { λ _. ⌜ now (out .exit) ≡ writtenOf cordLimit (now (store .entry)) count (now (out .entry)) .out ⌝ }
     ensures { λ _. ⌜ now (bytes .exit) ≡ kept (λ n. n) (now (bytes .entry)) (writtenOf cordLimit (now (store .entry)) count (now (out .entry)) .answer) ⌝ }
 {
@@ -285,7 +286,7 @@ pub extern "C" fn pelchunda_text(
     out: &mut [u8],
     bytes: &mut usize,
 ) -> u8
-    ensures { λ r. ⌜ r ≡ numberIn (textOf cordLimit (now (store .entry)) count (now (out .entry)) .answer) ⌝ }
+    ensures { λ r. ⌜ r ≡ shownNumber (textOf cordLimit (now (store .entry)) count (now (out .entry)) .answer) ⌝ }
     ensures { λ _. ⌜ now (out .exit) ≡ textOf cordLimit (now (store .entry)) count (now (out .entry)) .out ⌝ }
     ensures { λ _. ⌜ now (bytes .exit) ≡ kept (λ n. n) (now (bytes .entry)) (textOf cordLimit (now (store .entry)) count (now (out .entry)) .answer) ⌝ }
 {
@@ -296,7 +297,7 @@ pub extern "C" fn pelchunda_text(
 // Where the first event of a bundle starts: its 192 bytes are at that offset.
 #[no_mangle]
 pub extern "C" fn pelchunda_first_event(bundle: &[u8], offset: &mut usize) -> u8
-    ensures { λ r. ⌜ r ≡ numberIn (firstOf (now (bundle .entry))) ⌝ }
+    ensures { λ r. ⌜ r ≡ shownNumber (firstOf (now (bundle .entry))) ⌝ }
     ensures { λ _. ⌜ now (offset .exit) ≡ kept (λ n. n) (now (offset .entry)) (firstOf (now (bundle .entry))) ⌝ }
 {
     match takes::find_first(bundle) {
@@ -311,7 +312,7 @@ pub extern "C" fn pelchunda_first_event(bundle: &[u8], offset: &mut usize) -> u8
 // Writes the id of an event to the front of `id`: the SHA-256 of its 192 bytes.
 #[no_mangle]
 pub extern "C" fn pelchunda_id(event: &[u8], id: &mut [u8]) -> u8
-    ensures { λ r. ⌜ r ≡ numberIn (idOf (now (event .entry)) (now (id .entry)) .answer) ⌝ }
+    ensures { λ r. ⌜ r ≡ shownNumber (idOf (now (event .entry)) (now (id .entry)) .answer) ⌝ }
     ensures { λ _. ⌜ now (id .exit) ≡ idOf (now (event .entry)) (now (id .entry)) .out ⌝ }
 {
     if event.len() != 192 {
@@ -328,7 +329,7 @@ pub extern "C" fn pelchunda_id(event: &[u8], id: &mut [u8]) -> u8
 // Writes the ids of at most 256 events, each of 192 bytes, to the front of `ids`: side by side, so in less time than one by one.
 #[no_mangle]
 pub extern "C" fn pelchunda_ids(events: &[u8], ids: &mut [u8]) -> u8
-    ensures { λ r. ⌜ r ≡ numberIn (idsOf (now (events .entry)) (now (ids .entry)) .answer) ⌝ }
+    ensures { λ r. ⌜ r ≡ shownNumber (idsOf (now (events .entry)) (now (ids .entry)) .answer) ⌝ }
     ensures { λ _. ⌜ now (ids .exit) ≡ idsOf (now (events .entry)) (now (ids .entry)) .out ⌝ }
 {
     let n = events.len() / 192;

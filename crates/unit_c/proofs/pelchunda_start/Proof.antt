@@ -1,6 +1,6 @@
 use mathlib.Core.Path.{sym, ap, _∙_}
 use Rattle.takes.specs.Takes.{answerOfTake}
-use Rattle.unit_c.specs.Numbers.{numberIn}
+use Rattle.event.specs.Answers.{shownNumber}
 use borrow.Author.Needs.{needs}
 use Rattle.unit_c.proofs.pelchunda_start.Statement.{statement}
 use Rattle.unit_c.proofs.pelchunda_start.Tie as tie
@@ -27,7 +27,7 @@ returns : tie.Need-returns
 returns c =
     let call = c .before .before .before .before .start .ensures in
     let answer = sym (call .0 .0) ∙ ap answerOfTake (c .enum-told .given .1) in
-    (sym (ap numberIn answer), (call .1, call .0 .1))
+    (sym (ap shownNumber answer), (call .1, call .0 .1))
 
 same-length-2 : tie.Need-same-length-2
 same-length-2 c = search needs
@@ -36,7 +36,7 @@ returns-2 : tie.Need-returns-2
 returns-2 c =
     let call = c .before .before .before .before .start .ensures in
     let answer = sym (call .0 .0) ∙ ap answerOfTake (c .enum-told2 .given .1) in
-    (sym (ap numberIn answer), (call .1, call .0 .1))
+    (sym (ap shownNumber answer), (call .1, call .0 .1))
 
 same-length-3 : tie.Need-same-length-3
 same-length-3 c = search needs
@@ -45,7 +45,7 @@ returns-3 : tie.Need-returns-3
 returns-3 c =
     let call = c .before .before .before .before .before .before .start .ensures in
     let answer = sym (call .0 .0) ∙ ap answerOfTake (c .before .before .answer .given .1) in
-    (c .number .ensures ∙ sym (ap numberIn answer), (call .1, call .0 .1))
+    (c .number .ensures ∙ sym (ap shownNumber answer), (call .1, call .0 .1))
 
 pub pelchunda-start-spec : {M : Type 1} → statement M
 pelchunda-start-spec =
