@@ -21,7 +21,7 @@ pub enum Kind {
     Ids,
 }
 
-pub const KINDS: [Kind; 14] = [
+pub static KINDS: [Kind; 14] = [
     Kind::Start,
     Kind::Take,
     Kind::TakeCounted,
@@ -38,19 +38,10 @@ pub const KINDS: [Kind; 14] = [
     Kind::Ids,
 ];
 
-/// The kinds that take or read what a store holds: all that test the store and the count that they are lent.
-pub const HOLDING: &[Kind] = &[
-    Kind::Take,
-    Kind::TakeCounted,
-    Kind::TakeBundle,
-    Kind::TakeBundleCounted,
-    Kind::LookUp,
-    Kind::Order,
-    Kind::Verdict,
-    Kind::Map,
-    Kind::WriteOut,
-    Kind::Text,
-];
+/// The kinds that take or read what a store holds, from take to text: all that test the store and the count that they are lent.
+pub fn holding() -> &'static [Kind] {
+    &KINDS[1..11]
+}
 
 /// Everything that a call is lent: `offered` is an event, some events, a bundle or an id. A kind leaves alone what it has no use for.
 #[derive(Clone)]

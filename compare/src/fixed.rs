@@ -1,7 +1,7 @@
 //! Cases that every run has: each byte of an event, of a small bundle and of a small store altered in turn; each field at
 //! its edges; wrong lengths and counts for every call; a full store; bundles of 0 to 257; outputs one byte too short.
 
-use crate::cases::{Call, Kind, HOLDING, KINDS};
+use crate::cases::{holding, Call, Kind, KINDS};
 use crate::damage;
 use crate::feed::{noise, Fed};
 use crate::reference::make::{bundle, create, grant, id, join, revoke, unplug, Ev};
@@ -86,7 +86,7 @@ fn each_byte_of_store(t: &mut Trial) {
     let fed = small_unit(t);
     let set = small_set();
     for at in 0..3 * 192 {
-        let kind = HOLDING[at % HOLDING.len()];
+        let kind = holding()[at % holding().len()];
         let mut call = fed.call(kind);
         damage::byte(&mut t.rng, &mut call.store, at);
         call.offered = offered_to(kind, &set);
@@ -152,7 +152,7 @@ fn wrong_places(t: &mut Trial) {
     foreign[31] ^= 1;
     for event in [set[0], create(1), set[1], set[3], long, foreign] {
         for place in 0..3 {
-            for kind in HOLDING {
+            for kind in holding() {
                 let mut call = fed.call(*kind);
                 call.store[192 * place..192 * place + 192].copy_from_slice(&event);
                 call.offered = offered_to(*kind, &set);
@@ -242,7 +242,7 @@ fn lengths(t: &mut Trial) {
 fn counts(t: &mut Trial) {
     let fed = small_unit(t);
     let set = small_set();
-    for kind in HOLDING {
+    for kind in holding() {
         for count in damage::COUNTS {
             let out = noise(&mut t.rng, 800);
             t.compare(Call { count, offered: offered_to(*kind, &set), out, ..fed.call(*kind) });
