@@ -66,7 +66,8 @@ enum pelchunda_number {
                                      passing 3, another failing one of 3 to 6 or of kind 0, or two equal ids */
     PELCHUNDA_BAD_FIELD = 3,      /* a field outside its table */
     PELCHUNDA_OTHER_ROOM = 4,     /* room unlike the creator's */
-    PELCHUNDA_WRONG_CREATE = 5,   /* start without kind 0; take of a kind 0 unlike the creator */
+    PELCHUNDA_WRONG_CREATE = 5,   /* start without kind 0; take of a kind 0 unlike the creator; the first event of
+                                     a bundle that has none */
     PELCHUNDA_CORD_TOO_LONG = 6,  /* a join longer than its entry */
     PELCHUNDA_STORE_FULL = 7,     /* 256 held and the id new */
     PELCHUNDA_BAD_BUNDLE = 8,     /* bundle under 12 bytes, or a trailer field wrong, or distance past the front */
