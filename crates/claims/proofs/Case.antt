@@ -4,7 +4,7 @@ use native.Mathlib.Omega.{arith}
 use mathlib.Core.Path.{_≡_, refl, ap, _∙_}
 use mathlib.Core.Bool.{false}
 use mathlib.Core.Logic.{⊎-elim}
-use mathlib.Core.List.{List, [], _∷_, map, flatten, List·Memᴰ, List·Memᴰ·head, List·Memᴰ·tail, List·Memᴰ·cases-cons, List·Memᴰ·not-nil}
+use mathlib.Core.List.{[], _∷_, flatten, List·Memᴰ, List·Memᴰ·head, List·Memᴰ·tail, List·Memᴰ·cases-cons, List·Memᴰ·not-nil}
 use lib.ListN.{length, replicate, length-replicate}
 use borrow.Author.Tests.{le-leb}
 use Rattle.lists.specs.Cases.{clash}
@@ -59,7 +59,7 @@ use Rattle.model.specs.Verdicts.{
   effectiveIn,
   effective,
 }
-use Rattle.model.specs.Map.{Link, remove, add, act, run, machine, mapRows}
+use Rattle.model.specs.Map.{remove, add, act, run, machine, mapRows}
 use Rattle.model.specs.Rows.{mapRow, mapBytes}
 use Rattle.takes.specs.Takes.{stored, startOf}
 use Rattle.takes.specs.TakeLaws.{starts←}

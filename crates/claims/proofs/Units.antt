@@ -1,28 +1,21 @@
 -- A unit after a list of calls whose counted events make a set that fits: what it holds, and that its four calls tell the set.
-use Prim.Native.Nat.{ℕ, _≤_}
 use native.Mathlib.Omega.{arith}
 use mathlib.Core.Path.{_≡_, refl, sym, ap, _∙_, subst}
-use mathlib.Core.Bool.{true}
-use mathlib.Core.Option.{Option, none, some}
 use mathlib.Core.List.{List, [], _∷_, map, List·Memᴰ·head, List·Memᴰ·tail, Memᴰ·map, Memᴰ·of-map, Memᴰ·cast}
 use lib.Dec.{leb}
-use lib.ListN.{length, length-map}
-use borrow.Author.Tests.{eq-eqb, le-leb}
-use Rattle.lists.specs.Cases.{maybe, isSome, byBool}
+use lib.ListN.{length}
+use borrow.Author.Tests.{eq-eqb}
+use Rattle.lists.specs.Cases.{isSome, byBool}
 use Rattle.lists.specs.Bytes.{Bytes}
-use Rattle.lists.specs.Tests.{all←, Within, SameMembers}
+use Rattle.lists.specs.Tests.{Within, SameMembers}
 use Rattle.lists.specs.Sorting.{Distinct, distinct-one, distinct-map}
 use Rattle.lists.specs.Once.{once→, once←, once-distinct}
 use Rattle.lists.specs.Counting.{distinct-length}
-use Rattle.lists.specs.Chunks.{length-chunks}
 use Rattle.sha256.specs.Sha256.{sha256}
 use Rattle.cords.specs.Cords.{cordLimit}
 use Rattle.event.specs.Answers.{firstFailed}
-use Rattle.model.specs.Events.{Id}
-use Rattle.model.specs.Store.{eventOf, places, heldIn}
-use Rattle.model.specs.StoreLaws.{checked→}
-use Rattle.model.specs.Heights.{View, height, order}
-use Rattle.model.specs.HeightLaws.{height-bound}
+use Rattle.model.specs.Store.{eventOf, heldIn}
+use Rattle.model.specs.Heights.{View, order}
 use Rattle.model.specs.Map.{machine}
 use Rattle.model.specs.Rows.{orderBytes, mapBytes, writtenBytes}
 use Rattle.model.specs.SetLaws.{DistinctIds}
@@ -30,7 +23,7 @@ use Rattle.model.specs.Agreement.{view-same}
 use Rattle.takes.specs.TakeLaws.{Good}
 use Rattle.calls.specs.Calls.{Fits, Lent, heldBy, setOf}
 use Rattle.calls.specs.CallLaws.{set-held, calls-good}
-use Rattle.reports.specs.Reports.{heldView, heightsLow, writeTests, report, figuresOf, orderOf, mapOf, writtenOf, verdictOf}
+use Rattle.reports.specs.Reports.{heldView, writeTests, report, figuresOf, orderOf, mapOf, writtenOf, verdictOf}
 use Rattle.reports.specs.ReportLaws.{heights-low}
 use Rattle.claims.specs.Told.{setView, reportFrom, verdictFrom, Tells}
 use Rattle.claims.specs.ThirdDemand.{Given, leaves, counts, Makes}

@@ -1,11 +1,11 @@
 -- A message of 192 bytes.
 -- Assumes nothing.
-use mathlib.Core.Path.{_≡_, refl, sym, ap, _∙_}
+use mathlib.Core.Path.{_≡_, refl}
 use mathlib.Core.List.{List, []}
 use Prim.Native.Nat.{ℕ, _*_, _%_, _^_}
 use lib.ListN.{length, take, drop}
 use Rattle.sha256.specs.Sha256.{wordBytes, lengthBytes, padded, H0, schedule, rounds, addStates, compress}
-use Rattle.sha256.specs.Sha256.{hashBlocks, hashAll, digestBytes, sha256}
+use Rattle.sha256.specs.Sha256.{hashBlocks, digestBytes, sha256}
 use Rattle.sha256.specs.declared.State.{State}
 use Rattle.sha256.proofs.Blocks.{one-block}
 use Rattle.sha256.proofs.Padding.{whole}

@@ -1,7 +1,6 @@
 -- Worked examples: antt computes the definitions. Messages and digests are written by words, as NIST prints them.
 use mathlib.Core.Path.{_≡_, refl}
-use mathlib.Core.List.{List, [], _∷_, _++_}
-use Prim.Native.Nat.{ℕ}
+use mathlib.Core.List.{[], _∷_, _++_}
 use Rattle.sha256.specs.Constants.{K}
 use Rattle.sha256.specs.Sha256.{wordBytes, lengthBytes, padded, words, nextWord, extended, oneRound, rounds, addStates}
 use Rattle.sha256.specs.Sha256.{compress, hashBlocks, hashAll, digestBytes, sha256}
