@@ -176,7 +176,8 @@ class Specs:
                 self.lines[current], self.owner[current] = [], current
             elif cases and head[3]:
                 self.owner.setdefault(head[2], current)
-            self.lines[current].append(line)
+            if current:
+                self.lines[current].append(line)
 
 
 def reached(specs, roots):
@@ -185,6 +186,8 @@ def reached(specs, roots):
     while rest:
         file, name = rest.pop()
         spec = specs.get(file)
+        if spec and name not in spec.owner and name in spec.imports:
+            rest.add(spec.imports[name])
         if spec and name in spec.owner and (file, spec.owner[name]) not in seen:
             name = spec.owner[name]
             seen.add((file, name))
@@ -197,12 +200,14 @@ def promised(crate, functions):
     """What the `ensures` lines of a crate's functions name."""
     roots = set()
     for path in (CRATES / crate / "src").glob("*.rt"):
-        names, function = imports(read(path)), ""
+        names, function, promise = imports(read(path)), "", False
         for line in read(path).split("\n"):
             head = re.match(r"(?:pub )?(?:extern \"C\" )?fn (\w+)", line)
             function = head[1] if head else function
-            if re.fullmatch(functions, function) and line.startswith("    ensures"):
+            promise = promise or line.startswith("    ensures")
+            if promise and re.fullmatch(functions, function):
                 roots |= {names[word] for word in names_in(line) if word in names}
+            promise = promise and not line.endswith("⌝ }")
     return roots
 
 
@@ -241,7 +246,7 @@ def check_trust():
     specs = {str(path.relative_to(CRATES))[:-5]: Specs(path) for path in CRATES.glob("*/specs/*.antt")}
     roots = promised("takes", "start|take|take_bundle") | promised("reports", "order|verdict|map|write_out")
     demand = reached(specs, roots | {("claims/specs/ThirdDemand", "ThirdDemand")})
-    text = reached(specs, promised("text", "text") | promised("printing", "refusal_line")) - demand
+    text = reached(specs, promised("text", "text") | promised("text_format", "refusal_line")) - demand
     for_c = reached(specs, promised("unit_c", r"pelchunda_\w+")) - demand - text
     check_table(document, specs, demand)
     check_sentence(document, specs, "Its contract adds", text)

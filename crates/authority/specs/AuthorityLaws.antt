@@ -7,7 +7,7 @@ use mathlib.Core.Option.{Option, none, some}
 use mathlib.Core.List.{List, List·Memᴰ, List·Memᴰ·head, List·Memᴰ·tail}
 use lib.Dec.{eqb}
 use lib.ListN.{getD, take, drop, List·getD-eq-default}
-use borrow.Author.Tests.{eqb-true, eqb-false, ne-eqb}
+use borrow.Author.Tests.{eqb-true, eqb-false, ne-eqb, lt-ltb}
 use Rattle.lists.specs.Cases.{maybe, byBool, clash}
 use Rattle.lists.specs.Bytes.{Bytes}
 use Rattle.lists.specs.Tests.{allOf}
@@ -15,7 +15,7 @@ use Rattle.lists.specs.Chunks.{chunks}
 use Rattle.event.specs.declared.Grant.{Grant}
 use Rattle.event.specs.declared.Body.{Body}
 use Rattle.event.specs.declared.Body.the-variants.{Create as create, Grant as grant, Revoke as revoke, Join as join, Unplug as unplug}
-use Rattle.event.specs.Fields.{parentCount, parentIds, parentId}
+use Rattle.event.specs.Fields.{parentCount, parentIds, parentId, eventAt}
 use Rattle.model.specs.Events.{Id, Event, creates as createsBody, revokes, isCreate, isGrant, isRevoke}
 use Rattle.model.specs.Heights.{findIn, View, view, ancestor}
 use Rattle.model.specs.Verdicts.{givenBy, parentsSound as parentsSoundIn, presentedGrant, toAuthor, hasRight, permits, targetSuits, soundFrom, sound}
@@ -25,12 +25,10 @@ use Rattle.model.specs.Store.{eventOf, heldIn}
 use Rattle.model.specs.Packing.{kind-other}
 use Rattle.store.specs.declared.Slot.the-variants.{At as Held, Gap}
 use Rattle.store.specs.Tables.{slotIn}
-use Rattle.history.specs.Parents.{eventAt, placeBy}
-use Rattle.history.specs.LevelLaws.{level-from, bySlot, second-parent, third-parent, Later, creates, later, entry-some, entry-none, first-some, levels-heights}
-use Rattle.history.specs.Placed.{heldAt, idOf}
-use Rattle.authority.specs.declared.Ancestor.{Ancestor}
-use Rattle.authority.specs.declared.Presented.{Presented}
-use Rattle.authority.specs.Found.{ancestorPlace, presentedBy, presentedPlace, grantIn, targetBy, given-place, given-grant}
+use Rattle.ordering.specs.Named.{noPlace, placeBy}
+use Rattle.ordering.specs.LevelLaws.{level-from, bySlot, second-parent, third-parent, Later, creates, later, entry-some, entry-none, first-some, levels-heights}
+use Rattle.ordering.specs.Placed.{heldAt, idOf, slot-place}
+use Rattle.authority.specs.Found.{givenAt, grantIn, given-grant}
 use Rattle.authority.specs.Lines.{Authority}
 use Rattle.authority.specs.Sound.{parentSound, parentsSound, permitsBy, targetSuitsAt, soundAt, bit-test, SoundTable}
 use Rattle.authority.specs.PlaceLaws.{
@@ -38,14 +36,12 @@ use Rattle.authority.specs.PlaceLaws.{
   AncestorAt,
   few,
   found,
-  place-at,
   level-is,
   settled-at,
   level-of,
   byPresented,
-  presented-place,
-  lines,
   byTarget,
+  no-target,
   target-is,
 }
 
@@ -61,8 +57,8 @@ revoke-other revoke t = refl
 revoke-other (join c) t = refl
 revoke-other (unplug a) t = refl
 
-module _ {entry : ℕ → ℕ → ℕ} {store : Bytes} {n : ℕ} {ids : Bytes} {index P T M Q G : List ℕ} (tables : Tables entry store n ids index P T M Q G)
-    (S l : List ℕ) (sounding : SoundTable store P T Q (presentedBy store n ids index M) (targetBy store n ids index M) l S)
+module _ {store : Bytes} {n : ℕ} {ids : Bytes} {index P T M Q G : List ℕ} (tables : Tables store n ids index P T M Q G)
+    (S l : List ℕ) (sounding : SoundTable store P Q G l S)
     (all-in : (k : ℕ) → k < n → (getD T k 0 ≡ 0 → ⊥) → List·Memᴰ k l)
     (only-settled : (k : ℕ) → List·Memᴰ k l → getD T k 0 ≡ 0 → ⊥) where
   abbrev held : List Event
@@ -76,7 +72,7 @@ module _ {entry : ℕ → ℕ → ℕ} {store : Bytes} {n : ℕ} {ids : Bytes} {
 
   -- what stands behind the creator
   later-at : (k : ℕ) → k < n → (k ≡ 0 → ⊥) → Later (eventAt store k)
-  later-at = later entry store n (tables .good) ids index (tables .indexed)
+  later-at = later (tables .levelled .loaded)
 
   abbrev Right : ℕ → Type 0
   Right k = eqb (getD S k 0) 1 ≡ sound seen (idOf store k)
@@ -94,28 +90,28 @@ module _ {entry : ℕ → ℕ → ℕ} {store : Bytes} {n : ℕ} {ids : Bytes} {
         level =
             let w = settled→ seen (idOf store k) (settled-at tables k h s) in
             let u = height→ held (idOf store k) (heldAt store k) (w .0) (found tables k h) no-create (w .1) .each a m in
-            let above = levels-heights entry store n (tables .good) ids index (tables .indexed) P (tables .parents) T (tables .long) (tables .fixed) a in
+            let above = levels-heights (tables .levelled) a in
             let below = level-from (getD T (placeBy n ids index a) 0) (u .0) (above ∙ u .1) in
             let here = level-from (getD T k 0) (w .0) (level-is tables k h ∙ w .1) in
             ((λ z. omega (arith, below, z)), omega (arith, below, here, u .2))
 
         at : (p : ℕ) → slotIn ids 0 (take n index) a ≡ Held p → parentSound S (placeBy n ids index a) ≡ sound seen a
         at p e =
-            let place = place-at tables a p e in
-            rw (e, ne-eqb p 65535 (λ z. omega (arith, few tables, place .0, z))) (right p (place .0) (rw e at (level .1)) ∙ ap (sound seen) (place .1))
+            let place = slot-place (tables .levelled .loaded) a p e in
+            rw (e, ne-eqb p noPlace (λ z. omega (arith, few tables, place .0, z))) (right p (place .0) (rw e at (level .1)) ∙ ap (sound seen) (place .1))
 
         gone : (g : ℕ) → slotIn ids 0 (take n index) a ≡ Gap g → parentSound S (placeBy n ids index a) ≡ sound seen a
-        gone g e = absurd (level .0 (rw e (List·getD-eq-default T 0 (omega (arith, few tables, tables .long)))))
+        gone g e = absurd (level .0 (rw e (List·getD-eq-default T 0 (omega (arith, few tables, tables .levelled .long)))))
 
     -- where parent j stands, and that no parent j is
-    place-some : (j : ℕ) → j < 3 → j < parentCount (eventAt store k) → getD P (k * 3 + j) 0 ≡ placeBy n ids index (parentId (eventAt store k) j)
-    place-some j = entry-some entry store n (tables .good) ids index (tables .indexed) P (tables .parents) T k j h
+    place-some : (j : ℕ) → j < 3 → j < parentCount (eventAt store k) → getD P (k * 5 + j) 0 ≡ placeBy n ids index (parentId (eventAt store k) j)
+    place-some j = entry-some (tables .levelled .loaded) (tables .levelled .reads) k j h
 
-    place-none : (j : ℕ) → j < 3 → parentCount (eventAt store k) ≤ j → getD P (k * 3 + j) 0 ≡ 65535
-    place-none j = entry-none entry store n (tables .good) ids index (tables .indexed) P (tables .parents) T k j h
+    place-none : (j : ℕ) → j < 3 → parentCount (eventAt store k) ≤ j → getD P (k * 5 + j) 0 ≡ noPlace
+    place-none j = entry-none (tables .levelled .loaded) (tables .levelled .reads) k j h
 
-    place-first : 1 ≤ parentCount (eventAt store k) → getD P (k * 3) 0 ≡ placeBy n ids index (parentId (eventAt store k) 0)
-    place-first = first-some entry store n (tables .good) ids index (tables .indexed) P (tables .parents) T k h
+    place-first : 1 ≤ parentCount (eventAt store k) → getD P (k * 5) 0 ≡ placeBy n ids index (parentId (eventAt store k) 0)
+    place-first = first-some (tables .levelled .loaded) (tables .levelled .reads) k h
 
     parents-are : parentsSound P S k ≡ parentsSoundIn (sound seen) (heldAt store k)
     unfolding parentsSound parentsSoundIn eventOf parentIds chunks
@@ -139,13 +135,29 @@ module _ {entry : ℕ → ℕ → ℕ} {store : Bytes} {n : ℕ} {ids : Bytes} {
         go (suc (suc zero)) e each =
             let one = each (id 0) (List·Memᴰ·head refl) in
             let two = each (id 1) (List·Memᴰ·tail (List·Memᴰ·head (sym (second-parent (eventAt store k))))) in
-            rw (place-first (omega arith), place-some 1 (omega arith) (omega arith), place-none 2 (omega arith) (omega arith), one, two, second-parent (eventAt store k))
+            rw (
+              place-first (omega arith),
+              place-some 1 (omega arith) (omega arith),
+              place-none 2 (omega arith) (omega arith),
+              one,
+              two,
+              second-parent (eventAt store k),
+            )
             (and-assoc (sound seen (id 0)) (sound seen (id 1)) true)
         go (suc (suc (suc zero))) e each =
             let one = each (id 0) (List·Memᴰ·head refl) in
             let two = each (id 1) (List·Memᴰ·tail (List·Memᴰ·head (sym (second-parent (eventAt store k))))) in
             let three = each (id 2) (List·Memᴰ·tail (List·Memᴰ·tail (List·Memᴰ·head (sym (third-parent (eventAt store k)))))) in
-            rw (place-first (omega arith), place-some 1 (omega arith) (omega arith), place-some 2 (omega arith) (omega arith), one, two, three, second-parent (eventAt store k), third-parent (eventAt store k))
+            rw (
+              place-first (omega arith),
+              place-some 1 (omega arith) (omega arith),
+              place-some 2 (omega arith) (omega arith),
+              one,
+              two,
+              three,
+              second-parent (eventAt store k),
+              third-parent (eventAt store k),
+            )
             (and-three (sound seen (id 0)) (sound seen (id 1)) (sound seen (id 2)))
         go (suc (suc (suc (suc c)))) e each =
             let z : ⊥ = omega (arith, later-at k h not-first .parents-to) in
@@ -162,11 +174,11 @@ module _ {entry : ℕ → ℕ → ℕ} {store : Bytes} {n : ℕ} {ids : Bytes} {
     granted p w = rw (w .is-ancestor, ap (findIn held) (sym (w .id-is)) ∙ found tables p (w .inside))
 
     -- the conditions by places are the model's
-    abbrev byPlaces : Presented → Ancestor → Bool
-    byPlaces f t =
+    abbrev byPlaces : Bool
+    byPlaces =
         parentsSound P S k
-        && maybe false (permitsBy (heldAt store k .author) (heldAt store k .body)) (grantIn f)
-        && targetSuitsAt T Q (heldAt store k .body) (presentedPlace f) t
+        && maybe false (permitsBy (heldAt store k .author) (heldAt store k .body)) (grantIn (givenAt store (getD Q k 0)))
+        && targetSuitsAt Q (heldAt store k .body) (getD Q k 0) (getD G k 0)
 
     abbrev conditions : Bool
     conditions =
@@ -174,12 +186,12 @@ module _ {entry : ℕ → ℕ → ℕ} {store : Bytes} {n : ℕ} {ids : Bytes} {
         && maybe false (permits (heldAt store k)) (presentedGrant seen (heldAt store k))
         && targetSuits seen (heldAt store k)
 
-    conditions-are : byPlaces (presentedBy store n ids index M k) (targetBy store n ids index M k) ≡ conditions
-    unfolding presentedGrant
+    conditions-are : byPlaces ≡ conditions
+    unfolding presentedGrant givenAt eventOf
     conditions-are =
         byPresented tables k h s
         (λ p e w.
-        rw (e, given-place p (gives p), given-grant p (gives p), granted p w)
+        rw (e, lt-ltb p 256 (omega (arith, w .inside, few tables)), given-grant p (gives p), granted p w)
         (ap₂ _&&_ (ap₂ _&&_ parents-are (same (gives p))) (sym (target-is tables k p h s w))))
         (λ e f. rw (e, f, and-false (parentsSound P S k), and-false (parentsSoundIn (sound seen) (heldAt store k))))
       where
@@ -191,7 +203,7 @@ module _ {entry : ℕ → ℕ → ℕ} {store : Bytes} {n : ℕ} {ids : Bytes} {
         same none = refl
         same (some g) = sym (permitted g)
 
-    other-row : soundAt store P T Q S k (presentedBy store n ids index M k) (targetBy store n ids index M k) ≡ sound seen (idOf store k)
+    other-row : soundAt store P Q G S k ≡ sound seen (idOf store k)
     unfolding soundAt soundFrom eventOf
     other-row =
         rw (ne-eqb k 0 not-first, sound-law held (idOf store k) (heldAt store k) (found tables k h) (settled-at tables k h s), no-create)
@@ -201,14 +213,13 @@ module _ {entry : ℕ → ℕ → ℕ} {store : Bytes} {n : ℕ} {ids : Bytes} {
   unfolding soundAt
   row k h s right =
       ap (λ (v : ℕ). eqb v 1) (sounding .made k (all-in k h s))
-      ∙ bit-test (soundAt store P T Q S k (presentedBy store n ids index M k) (targetBy store n ids index M k))
+      ∙ bit-test (soundAt store P Q G S k)
       ∙ byBool (eqb k 0) first (λ f. other-row k h s (eqb-false k 0 f) right)
     where
-      first : eqb k 0 ≡ true
-          → soundAt store P T Q S k (presentedBy store n ids index M k) (targetBy store n ids index M k) ≡ sound seen (idOf store k)
+      first : eqb k 0 ≡ true → soundAt store P Q G S k ≡ sound seen (idOf store k)
       first t =
           let e : k ≡ 0 = eqb-true k 0 t in
-          let c : isCreate (heldAt store k) ≡ true = rw e (creates entry store n (tables .good) ids index (tables .indexed)) in
+          let c : isCreate (heldAt store k) ≡ true = rw e (creates (tables .levelled .loaded)) in
           rw (t, sound-creator held (idOf store k) (heldAt store k) (found tables k h) c)
 
   -- a sound event is settled
@@ -237,7 +248,7 @@ module _ {entry : ℕ → ℕ → ℕ} {store : Bytes} {n : ℕ} {ids : Bytes} {
       → (getD Q k 0 < n) × (heldAt store k .presented ≡ idOf store (getD Q k 0))
   presents-at k h not-first t =
       byPresented tables k h (sound-level k h t)
-      (λ p e w. rw (presented-place tables k p h (sound-level k h t) e) (w .inside, sym (w .id-is)))
+      (λ p e w. rw e (w .inside, sym (w .id-is)))
       (λ e f.
       let other = kind-other (eventAt store k) (later-at k h not-first .no-create) in
       clash (ancestor seen (idOf store k) (heldAt store k .presented)) (conditions-of k h other t .presents-ancestor) f)
@@ -246,23 +257,18 @@ module _ {entry : ℕ → ℕ → ℕ} {store : Bytes} {n : ℕ} {ids : Bytes} {
       → (getD G k 0 < n) × (heldAt store k .target ≡ idOf store (getD G k 0))
   names-at k h r t =
       byTarget tables k h (sound-level k h t) r
-      (λ q e u. rw (tables .names k h (sound-level k h t) ∙ ap ancestorPlace e) (u .named .inside, sym (u .named .id-is)))
+      (λ q e u. rw e (u .named .inside, sym (u .named .id-is)))
       (λ e f.
       let c = conditions-of k h (revoke-other (heldAt store k .body) r) t .target-suits r in
       clash (ancestor seen (idOf store k) (heldAt store k .target) && maybe false isGrant (findIn held (heldAt store k .target)))
       (rw (c .target-ancestor, c .target-found, c .target-grants)) f)
 
-  no-target-at : (k : ℕ) → k < n → isRevoke (heldAt store k) ≡ false → sound seen (idOf store k) ≡ true → getD G k 0 ≡ 256
-  unfolding targetBy eventOf
-  no-target-at k h f t = tables .names k h (sound-level k h t) ∙ rw f
-
-  -- from the tables of a good store, `order` holding the settled places and no others
-  pub authority : Authority store n T Q G S
+  -- from the tables of a good store, `l` holding the settled places and no others
+  pub authority : Authority store n Q G S
   authority =
       record {
         sound-is = λ k h. rows (getD T k 0) k (omega arith) h;
-        line-is = λ k h t. lines tables (getD T k 0) k h (sound-level k h t) (omega arith) .is-line;
         presents = presents-at;
         names = names-at;
-        no-target = no-target-at;
+        no-target = λ k h f t. no-target tables k h (sound-level k h t) f;
       }

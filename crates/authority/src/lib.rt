@@ -1,36 +1,24 @@
 // Who may do what: the ancestor that each event presents and what it gives, the target of each revoke, lines, and which places are
 // sound.
 ghost use mathlib.Core.Path.{_≡_};
-ghost use Prim.Native.Nat.{_<_, _≤_};
+ghost use mathlib.Core.List.{List·Memᴰ};
+ghost use Prim.Native.Nat.{ℕ, _<_};
 ghost use lib.Dec.{eqb};
-ghost use lib.ListN.{length, take};
-ghost use Rattle.lists.specs.Sorting.{Ascending};
+ghost use lib.ListN.{getD};
 ghost use Rattle.lists.specs.Tests.{anyOf};
 ghost use Rattle.model.specs.Events.{grants, revokes};
 ghost use Rattle.model.specs.Verdicts.{givenBy, has, within, rightFor, coversBody};
-ghost use Rattle.store.specs.Tables.{idAt};
-ghost use Rattle.history.specs.Parents.{eventAt};
-ghost use Rattle.history.specs.Order.{Ordered};
-ghost use Rattle.ancestry.specs.Ancestors.{AncestorRows};
-ghost use Rattle.authority.specs.Found.{ancestorBy, ancestorPlace, givenFrom, presentedBy, presentedPlace, targetBy};
+ghost use Rattle.ordering.specs.Order.{Ordered};
+ghost use Rattle.authority.specs.Found.{ancestorBy, ancestorPlace, givenFrom, givenAt, targetBy, NamedAncestors};
 ghost use Rattle.authority.specs.Lines.{lineFrom};
-ghost use Rattle.authority.specs.Sound.{
-  PresentedTable,
-  TargetTable,
-  parentSound,
-  parentsSound,
-  permitsBy,
-  targetSuitsAt,
-  soundAt,
-  bit,
-  SoundTable,
-};
+ghost use Rattle.authority.specs.Sound.{parentSound, parentsSound, permitsBy, targetSuitsAt, soundAt, bit, SoundTable};
 use event::Body;
 use event::Grant;
 use event::Parsed;
-use store::Slot;
+use ordering::MISSING;
+use ordering::NONE;
 
-// An ancestor that was looked for by its id: its place, or that there is none.
+// An ancestor that an event names by its id: its place, or that there is none.
 pub enum Ancestor {
     At(u16),
     Nowhere,
@@ -47,13 +35,6 @@ pub enum Presented {
     Gives(Given),
     Other(u16),
     Nothing,
-}
-
-// The 192 bytes at a place.
-fn event_at(store: &[u8], k: u16) -> &[u8]
-    ensures { λ r. ⌜ now r ≡ eventAt (now (store .entry)) k ⌝ }
-{
-    octets::part(store, (k as usize) * 192, 192)
 }
 
 fn is_grant(body: Body) -> bool
@@ -80,14 +61,12 @@ fn is_revoke(body: Body) -> bool
     }
 }
 
-// Finds the ancestor of the event at place k that has an id.
-fn find_ancestor(n: u16, ids: &[u8], index: &[u16], rows: &[u64], k: u16, id: &[u8]) -> Ancestor
-    requires { ⌜ (n ≤ length (now index)) × Ascending (idAt (now ids)) (take n (now index)) ⌝ }
-    ensures { λ r. ⌜ r ≡ ancestorBy n (now (ids .entry)) (now (index .entry)) (now (rows .entry)) k (now (id .entry)) ⌝ }
+// Finds the id j that the event at place k names among its ancestors. A row has no bit for what is no place.
+fn find_ancestor(named: &[u16; 1280], rows: &[u64; 1024], k: u16, j: u16) -> Ancestor
+    requires { ⌜ (k < 256) × (j < 5) ⌝ }
+    ensures { λ r. ⌜ r ≡ ancestorBy (now (named .entry)) (now (rows .entry)) k j ⌝ }
 {
-    let Slot::At(p) = store::search(ids, index, n, id) else {
-        return Ancestor::Nowhere;
-    };
+    let p = named[(k as usize) * 5 + (j as usize)];
     if tables::has(rows, k, p) {
         Ancestor::At(p)
     } else {
@@ -115,78 +94,83 @@ fn given_by(p: u16, e: Parsed) -> Presented
     }
 }
 
-// Finds the ancestor P that the event at place k presents.
-fn find_presented(
-    store: &[u8],
-    n: u16,
-    ids: &[u8],
-    index: &[u16],
-    rows: &[u64],
-    k: u16,
-) -> Presented
-    requires { ⌜ (n ≤ length (now index)) × Ascending (idAt (now ids)) (take n (now index)) ⌝ }
-    ensures { λ r. ⌜ r ≡ presentedBy (now (store .entry)) n (now (ids .entry)) (now (index .entry)) (now (rows .entry)) k ⌝ }
+// Finds the grant that the revoke at place k names, among its ancestors; another kind names no target.
+fn find_target(store: &[u8], named: &[u16; 1280], rows: &[u64; 1024], k: u16) -> Ancestor
+    requires { ⌜ k < 256 ⌝ }
+    ensures { λ r. ⌜ r ≡ targetBy (now (store .entry)) (now (named .entry)) (now (rows .entry)) k ⌝ }
 {
-    let id = event::presented_id(event_at(store, k));
-    let Ancestor::At(p) = find_ancestor(n, ids, index, rows, k, id) else {
-        return Presented::Nothing;
-    };
-    given_by(p, event::read(event_at(store, p)))
-}
-
-// Finds the grant that the revoke at place k names, among its ancestors; another kind names none.
-fn find_target(store: &[u8], n: u16, ids: &[u8], index: &[u16], rows: &[u64], k: u16) -> Ancestor
-    requires { ⌜ (n ≤ length (now index)) × Ascending (idAt (now ids)) (take n (now index)) ⌝ }
-    ensures { λ r. ⌜ r ≡ targetBy (now (store .entry)) n (now (ids .entry)) (now (index .entry)) (now (rows .entry)) k ⌝ }
-{
-    let e = event_at(store, k);
-    let revoke = event::read(e);
-    let body = revoke.body;
-    if !is_revoke(body) {
-        return Ancestor::Nowhere;
-    }
-    let Ancestor::At(t) = find_ancestor(n, ids, index, rows, k, event::target_id(e)) else {
+    let Ancestor::At(t) = find_ancestor(named, rows, k, 4) else {
         return Ancestor::Nowhere;
     };
-    let named = event::read(event_at(store, t));
-    let kind = named.body;
-    if is_grant(kind) {
+    let e = event::read(event::event_at(store, t));
+    let body = e.body;
+    if is_grant(body) {
         Ancestor::At(t)
     } else {
         Ancestor::Nowhere
     }
 }
 
-// The place of an ancestor as the tables hold it: 256 for none.
+// The place of an ancestor as the tables hold it: MISSING for none.
 fn ancestor_place(a: Ancestor) -> u16
     ensures { λ r. ⌜ r ≡ ancestorPlace a ⌝ }
 {
     match a {
         Ancestor::At(p) => p,
-        Ancestor::Nowhere => 256,
+        Ancestor::Nowhere => MISSING,
     }
 }
 
-fn presented_place(found: Presented) -> u16
-    ensures { λ r. ⌜ r ≡ presentedPlace found ⌝ }
+// For each listed place, where the ancestor stands that it presents, and the grant among its ancestors that a revoke names;
+// MISSING for none.
+pub fn find_named_ancestors(
+    store: &[u8],
+    named: &[u16; 1280],
+    order: &[u16],
+    rows: &[u64; 1024],
+    presented: &mut [u16; 256],
+    targets: &mut [u16; 256],
+)
+    requires { ⌜ ((k : ℕ) → List·Memᴰ k (now order) → k < 256) ⌝ }
+    ensures { λ _. ⌜ NamedAncestors (now (store .entry)) (now (named .entry)) (now (rows .entry)) (now (order .entry))
+        (now (presented .exit)) (now (targets .exit)) ⌝ }
 {
-    match found {
-        Presented::Gives(given) => given.place,
-        Presented::Other(p) => p,
-        Presented::Nothing => 256,
+    tables::clear(presented);
+    tables::clear(targets);
+    let mut i = 0;
+    while i < order.len() {
+        let k = order[i];
+        let p = ancestor_place(find_ancestor(named, rows, k, 3));
+        let t = ancestor_place(find_target(store, named, rows, k));
+        let at = k as usize;
+        presented[at] = p;
+        targets[at] = t;
+        i += 1;
     }
+}
+
+// What the event at place k presents, by the table of presented places.
+fn find_presented(store: &[u8], presented: &[u16; 256], k: u16) -> Presented
+    requires { ⌜ k < 256 ⌝ }
+    ensures { λ r. ⌜ r ≡ givenAt (now (store .entry)) (getD (now (presented .entry)) k 0) ⌝ }
+{
+    let p = presented[k as usize];
+    if MISSING <= p {
+        return Presented::Nothing;
+    }
+    given_by(p, event::read(event::event_at(store, p)))
 }
 
 // Whether the sought place is on the line of a place: the question is passed to the place that it presents, one step nearer the
 // creator. `left` bounds the steps to the creator and falls at each call.
-fn on_line(presented: &[u16], left: u16, sought: u16, place: u16) -> bool
+fn on_line(presented: &[u16; 256], left: u16, sought: u16, place: u16) -> bool
     ensures { λ r. ⌜ r ≡ anyOf (eqb sought) (lineFrom (now (presented .entry)) left place) ⌝ }
 {
     if left == 0 {
         return false;
     }
     let p = tables::entry(presented, place);
-    if 256 <= p {
+    if MISSING <= p {
         return false;
     }
     if sought == p {
@@ -251,108 +235,88 @@ fn permits(e: Parsed, grant: Grant) -> bool
     (grant.subject == author) & right & covered
 }
 
-// Whether a revoke's target suits: there is one, and the place p of P is on its line. Another kind names none.
-fn target_suits(levels: &[u16], presented: &[u16], body: Body, p: u16, target: Ancestor) -> bool
-    ensures { λ r. ⌜ r ≡ targetSuitsAt (now (levels .entry)) (now (presented .entry)) body p target ⌝ }
+// Whether a revoke's target, at place t, suits: there is one, and the place p of P is on its line. Another kind names none. A line
+// has at most 256 places.
+fn target_suits(presented: &[u16; 256], body: Body, p: u16, t: u16) -> bool
+    ensures { λ r. ⌜ r ≡ targetSuitsAt (now (presented .entry)) body p t ⌝ }
 {
     if !is_revoke(body) {
         return true;
     }
-    let Ancestor::At(t) = target else {
+    if MISSING <= t {
         return false;
-    };
-    on_line(presented, tables::entry(levels, t), p, t)
+    }
+    on_line(presented, 256, p, t)
 }
 
-// Whether the parent at place p is sound; 65535 stands for none.
-fn parent_sound(sound: &[u8], p: u16) -> bool
+// Whether the parent at place p is sound; NONE stands for no parent.
+fn parent_sound(sound: &[u16; 256], p: u16) -> bool
     ensures { λ r. ⌜ r ≡ parentSound (now (sound .entry)) p ⌝ }
 {
-    let s = octets::byte(sound, p as usize);
-    (p == 65535) | (s == 1)
+    let s = tables::entry(sound, p);
+    (p == NONE) | (s == 1)
 }
 
-fn parents_sound(parents: &[u16], sound: &[u8], k: u16) -> bool
+fn parents_sound(named: &[u16; 1280], sound: &[u16; 256], k: u16) -> bool
     requires { ⌜ k < 256 ⌝ }
-    ensures { λ r. ⌜ r ≡ parentsSound (now (parents .entry)) (now (sound .entry)) k ⌝ }
+    ensures { λ r. ⌜ r ≡ parentsSound (now (named .entry)) (now (sound .entry)) k ⌝ }
 {
-    let i = k * 3;
-    let a = tables::entry(parents, i);
-    let b = tables::entry(parents, i + 1);
-    let c = tables::entry(parents, i + 2);
+    let i = (k as usize) * 5;
+    let a = named[i];
+    let b = named[i + 1];
+    let c = named[i + 2];
     parent_sound(sound, a) & parent_sound(sound, b) & parent_sound(sound, c)
 }
 
-// 1 where the event at place k is sound, else 0, from what it presents and names; `sound` says which of its parents are.
+// 1 where the event at place k is sound, else 0; `sound` says which of its parents are.
 fn sound_at(
     store: &[u8],
-    parents: &[u16],
-    levels: &[u16],
-    presented: &[u16],
-    sound: &[u8],
+    named: &[u16; 1280],
+    presented: &[u16; 256],
+    targets: &[u16; 256],
+    sound: &[u16; 256],
     k: u16,
-    found: Presented,
-    target: Ancestor,
-) -> u8
+) -> u16
     requires { ⌜ k < 256 ⌝ }
-    ensures { λ r. ⌜ r ≡ bit (soundAt (now (store .entry)) (now (parents .entry)) (now (levels .entry)) (now (presented .entry))
-        (now (sound .entry)) k found target) ⌝ }
+    ensures { λ r. ⌜ r ≡ bit (soundAt (now (store .entry)) (now (named .entry)) (now (presented .entry)) (now (targets .entry))
+        (now (sound .entry)) k) ⌝ }
 {
     if k == 0 {
         return 1;
     }
-    if !parents_sound(parents, sound, k) {
+    if !parents_sound(named, sound, k) {
         return 0;
     }
-    let Presented::Gives(given) = found else {
+    let Presented::Gives(given) = find_presented(store, presented, k) else {
         return 0;
     };
     let grant = given.grant;
-    let e = event::read(event_at(store, k));
+    let e = event::read(event::event_at(store, k));
     let permitted = permits(e, grant);
     let body = e.body;
-    let suits = target_suits(levels, presented, body, given.place, target);
+    let suits = target_suits(presented, body, given.place, targets[k as usize]);
     if permitted & suits { 1 } else { 0 }
 }
 
-// The three tables, for each listed place: what it presents, what it names, whether it is sound (1; another place 0). The places
-// stand behind their parents, and so behind all their ancestors.
+// Which listed places are sound (1; another place 0). The places stand behind their parents.
 pub fn authorize(
     store: &[u8],
-    n: u16,
-    ids: &[u8],
-    index: &[u16],
-    parents: &[u16],
-    levels: &[u16],
+    named: &[u16; 1280],
     order: &[u16],
-    rows: &[u64],
-    presented: &mut [u16],
-    targets: &mut [u16],
-    sound: &mut [u8],
+    presented: &[u16; 256],
+    targets: &[u16; 256],
+    sound: &mut [u16; 256],
 )
-    requires { ⌜ (n ≤ length (now index)) × Ascending (idAt (now ids)) (take n (now index)) × Ordered (now parents) (now order)
-        × AncestorRows (now parents) (now order) (now rows) ⌝ }
-    requires { ⌜ (length (now presented) ≡ 256) × (length (now targets) ≡ 256) × (length (now sound) ≡ 256) ⌝ }
-    ensures { λ _. ⌜ PresentedTable (presentedBy (now (store .entry)) n (now (ids .entry)) (now (index .entry)) (now (rows .entry)))
-        (now (order .entry)) (now (presented .exit)) ⌝ }
-    ensures { λ _. ⌜ TargetTable (targetBy (now (store .entry)) n (now (ids .entry)) (now (index .entry)) (now (rows .entry)))
-        (now (order .entry)) (now (targets .exit)) ⌝ }
-    ensures { λ _. ⌜ SoundTable (now (store .entry)) (now (parents .entry)) (now (levels .entry)) (now (presented .exit))
-        (presentedBy (now (store .entry)) n (now (ids .entry)) (now (index .entry)) (now (rows .entry)))
-        (targetBy (now (store .entry)) n (now (ids .entry)) (now (index .entry)) (now (rows .entry)))
+    requires { ⌜ Ordered (now named) (now order) ⌝ }
+    ensures { λ _. ⌜ SoundTable (now (store .entry)) (now (named .entry)) (now (presented .entry)) (now (targets .entry))
         (now (order .entry)) (now (sound .exit)) ⌝ }
 {
-    tables::clear_bytes(sound);
+    tables::clear(sound);
     let mut i = 0;
     while i < order.len() {
         let k = order[i];
-        let found = find_presented(store, n, ids, index, rows, k);
-        let target = find_target(store, n, ids, index, rows, k);
-        let s = sound_at(store, parents, levels, presented, sound, k, found, target);
-        let at = k as usize;
-        presented[at] = presented_place(found);
-        targets[at] = ancestor_place(target);
-        sound[at] = s;
+        let s = sound_at(store, named, presented, targets, sound, k);
+        sound[k as usize] = s;
         i += 1;
     }
 }

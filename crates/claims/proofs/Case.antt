@@ -8,62 +8,23 @@ use mathlib.Core.List.{[], _∷_, flatten, List·Memᴰ, List·Memᴰ·head, Lis
 use lib.ListN.{length, replicate, length-replicate}
 use borrow.Author.Tests.{le-leb}
 use Rattle.lists.specs.Cases.{clash}
-use Rattle.lists.specs.Bytes.{Bytes, sameBytes, same←, precedes}
+use Rattle.lists.specs.Bytes.{Bytes, sameBytes, same←}
 use Rattle.lists.specs.Tests.{SameMembers}
-use Rattle.lists.specs.Chunks.{chunks}
-use Rattle.octets.specs.Octets.{allZero}
-use Rattle.sha256.specs.Constants.{K}
-use Rattle.sha256.specs.Sha256.{wordBytes, lengthBytes, padded, words, nextWord, extended, oneRound, rounds, addStates, compress, hashBlocks, hashAll, digestBytes, sha256}
+use Rattle.sha256.specs.Sha256.{sha256}
+use Rattle.sha256.specs.Vectors.{sha256Computed}
 use Rattle.cords.specs.Cords.{entryOf, cordLimit}
 use Rattle.event.specs.Answers.{value}
-use Rattle.event.specs.Fields.{
-  kindGood,
-  authorGood,
-  parentCountGood,
-  rightsGood,
-  subjectGood,
-  connectorsGood,
-  byte7Good,
-  portsGood,
-  lengthGood,
-  formatGood,
-  presentedGood,
-  targetGood,
-  parentIds,
-  ascending,
-  parentsGood,
-  fieldsGood,
-}
+use Rattle.event.specs.Examples.{fieldsComputed}
 use Rattle.event.specs.Contents.{bodyOf, cordAt}
 use Rattle.event.specs.Checks.{cordGood, refusal}
 use Rattle.model.specs.Numbers.{bytes16, bytes32}
 use Rattle.model.specs.Bundle.{trailer, packed, bundleGood}
-use Rattle.model.specs.Store.{eventOf}
-use Rattle.model.specs.Heights.{findIn, greatest, heightFrom, heightIn, height, order, ancestorIn, ancestor}
-use Rattle.model.specs.Verdicts.{
-  within,
-  covers,
-  lineIn,
-  line,
-  parentsSound,
-  presentedGrant,
-  toAuthor,
-  hasRight,
-  coversBody,
-  targetSuits,
-  permits,
-  soundFrom,
-  soundIn,
-  sound,
-  strikes,
-  effectiveIn,
-  effective,
-}
-use Rattle.model.specs.Map.{remove, add, act, run, machine, mapRows}
+use Rattle.model.specs.Map.{machine, mapRows}
+use Rattle.model.specs.Examples.{mapComputed}
 use Rattle.model.specs.Rows.{mapRow, mapBytes}
 use Rattle.takes.specs.Takes.{stored, startOf}
 use Rattle.takes.specs.TakeLaws.{starts←}
-use Rattle.calls.specs.Calls.{Lent, offersOf, offers, countedEvents}
+use Rattle.call_lists.specs.Calls.{Lent, offersOf, offers, countedEvents}
 use Rattle.reports.specs.Reports.{figuresOf}
 use Rattle.claims.specs.Told.{setView, Tells}
 use Rattle.claims.specs.ThirdDemand.{Premises, Agree, counts}
@@ -73,20 +34,21 @@ use Rattle.claims.proofs.Third.{third-demand}
 -- ── the premises ────────────────────────────────────────────────────────────────────────────────────────────────────────
 
 starts : (buffer : Bytes) → length buffer ≡ 49152 → startOf buffer creator .answer ≡ value stored
-unfolding creator fieldsGood kindGood authorGood parentCountGood rightsGood subjectGood connectorsGood byte7Good portsGood lengthGood formatGood presentedGood targetGood parentIds ascending parentsGood chunks allZero precedes
+unfolding creator fieldsComputed
 starts buffer h = ap (λ x. x .answer) (starts← buffer creator (record { long = refl; size = h; fields = refl; create = refl }))
 
 -- the two ids differ
 apart : sameBytes (sha256 joining) (sha256 creator) ≡ false
-unfolding creator joining sameBytes wordBytes lengthBytes padded words nextWord extended K oneRound rounds addStates compress hashBlocks hashAll digestBytes sha256
+unfolding creator joining sameBytes sha256Computed
 apart = refl
 
 singly-counts : counts creator singly ≡ both
-unfolding creator joining countedEvents offers offersOf bundleGood refusal fieldsGood kindGood authorGood parentCountGood rightsGood subjectGood connectorsGood byte7Good portsGood lengthGood formatGood presentedGood targetGood parentIds ascending parentsGood chunks allZero precedes sameBytes bodyOf cordGood cordLimit entryOf
+unfolding creator joining countedEvents offers offersOf bundleGood refusal fieldsComputed sameBytes bodyOf cordGood cordLimit entryOf
 singly-counts = refl
 
 bundled-counts : counts creator bundled ≡ creator ∷ joining ∷ creator ∷ []
-unfolding creator joining countedEvents offers offersOf bundleGood refusal fieldsGood kindGood authorGood parentCountGood rightsGood subjectGood connectorsGood byte7Good portsGood lengthGood formatGood presentedGood targetGood parentIds ascending parentsGood chunks allZero precedes sameBytes bodyOf cordGood cordLimit entryOf packed trailer bytes16 bytes32 flatten
+unfolding creator joining countedEvents offers offersOf bundleGood refusal fieldsComputed sameBytes bodyOf cordGood cordLimit entryOf
+    packed trailer bytes16 bytes32 flatten
 bundled-counts = refl
 
 -- a member that comes twice is a member
@@ -143,11 +105,11 @@ agree : Agree creator both singly bundled
 agree = third-demand creator both singly bundled met
 
 figures : figuresOf (machine (setView both)) ≡ record { rows = 1; ended = 0; joins = 1 }
-unfolding creator joining sameBytes precedes chunks parentIds bodyOf eventOf findIn greatest heightFrom heightIn height order ancestorIn ancestor within covers lineIn line parentsSound presentedGrant toAuthor hasRight coversBody targetSuits permits soundFrom soundIn sound strikes effectiveIn effective remove add act run machine wordBytes lengthBytes padded words nextWord extended K oneRound rounds addStates compress hashBlocks hashAll digestBytes sha256
+unfolding creator joining mapComputed sha256Computed
 figures = refl
 
 rows : mapRows (setView both) ≡ cordAt 3 7 4 5 12 ∷ []
-unfolding creator joining sameBytes precedes chunks parentIds bodyOf eventOf findIn greatest heightFrom heightIn height order ancestorIn ancestor within covers lineIn line parentsSound presentedGrant toAuthor hasRight coversBody targetSuits permits soundFrom soundIn sound strikes effectiveIn effective remove add act run machine mapRows wordBytes lengthBytes padded words nextWord extended K oneRound rounds addStates compress hashBlocks hashAll digestBytes sha256
+unfolding creator joining mapComputed sha256Computed
 rows = refl
 
 bytes : mapBytes (setView both) ≡ 0 ∷ 3 ∷ 0 ∷ 7 ∷ 4 ∷ 5 ∷ 0 ∷ 12 ∷ []

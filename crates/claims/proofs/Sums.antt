@@ -17,9 +17,10 @@ use Rattle.model.specs.Map.{machine}
 use Rattle.model.specs.MapLaws.{joins-run}
 use Rattle.model.specs.Rows.{mapBytes}
 use Rattle.store.specs.LookUp.{storeLong}
+use Rattle.bundles.specs.BundleCheck.{passes-8}
 use Rattle.takes.specs.Takes.{bundleTests, bundleOf, runOf}
-use Rattle.takes.specs.TakeLaws.{numberIn, freshRun, total, figures-total, bundle-count}
-use Rattle.calls.specs.CallLaws.{takesOf, passes-left, left-passes}
+use Rattle.takes.specs.TakeLaws.{numberIn, freshRun, total, figures-total}
+use Rattle.call_lists.specs.CallLaws.{takesOf, passes-left, left-passes}
 use Rattle.reports.specs.Reports.{heldView, writeTests, figuresOf, mapOf}
 use Rattle.claims.specs.Sums.{FiguresAddUp, JoinsAddUp, Check2Exact}
 
@@ -35,7 +36,7 @@ figures-add-up m b t p =
         let two = passed→ 2 (storeGood cordLimit (m .store) (m .count)) (drop 2 tests) (one .1) in
         let eight = passed→ 8 (bundleGood b) [] (two .1) in
         let count = length-chunks 192 (drop (trailerAt b - distanceIn b) b) (countIn b) in
-        let few = bundle-count b (eight .0) in
+        let few = passes-8 b (eight .0) .few in
         let answer : value (runOf cordLimit (freshRun (m .store) (m .count)) (eventsIn b) .figures) ≡ value t = rw q at p in
         let same : t ≡ runOf cordLimit (freshRun (m .store) (m .count)) (eventsIn b) .figures = cc in
         ap total same

@@ -5,7 +5,7 @@ use mathlib.Core.List.{List, map}
 use Rattle.lists.specs.Bytes.{Bytes}
 use Rattle.model.specs.Store.{eventOf}
 use Rattle.model.specs.MapLaws.{row-by}
-use Rattle.calls.specs.Calls.{Fits, Lent}
+use Rattle.call_lists.specs.Calls.{Fits, Lent}
 use Rattle.claims.specs.Told.{Tells}
 use Rattle.claims.specs.ThirdDemand.{Equal, leaves, ThirdDemand}
 use Rattle.claims.proofs.Units.{ids-distinct, unit-tells}

@@ -29,7 +29,7 @@ use Rattle.model.specs.Output.{overwritten}
 use Rattle.takes.specs.declared.Tally.{Tally}
 use Rattle.takes.specs.Takes.{Placed, stored, Left, Run, startOf, runOf, bundleOf}
 use Rattle.takes.specs.TakeLaws.{Good, starts←, start-held, start-creator, start-good, freshRun, bundle-good, total, figures-total}
-use Rattle.calls.specs.Calls.{Fits, Lent, bundle, heldBy, offersOf, offers, passesBeside, countedEvents, afterCall, afterCalls}
+use Rattle.call_lists.specs.Calls.{Fits, Lent, bundle, heldBy, offersOf, offers, passesBeside, countedEvents, afterCall, afterCalls}
 use Rattle.reports.specs.Reports.{Report, writtenOf}
 use Rattle.claims.specs.Told.{setView, Tells}
 use Rattle.claims.specs.ThirdDemand.{Given, Makes}

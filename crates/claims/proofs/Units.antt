@@ -21,10 +21,10 @@ use Rattle.model.specs.Rows.{orderBytes, mapBytes, writtenBytes}
 use Rattle.model.specs.SetLaws.{DistinctIds}
 use Rattle.model.specs.Agreement.{view-same}
 use Rattle.takes.specs.TakeLaws.{Good}
-use Rattle.calls.specs.Calls.{Fits, Lent, heldBy, setOf}
-use Rattle.calls.specs.CallLaws.{set-held, calls-good}
+use Rattle.call_lists.specs.Calls.{Fits, Lent, heldBy, setOf}
+use Rattle.call_lists.specs.CallLaws.{set-held, calls-good}
 use Rattle.reports.specs.Reports.{heldView, writeTests, report, figuresOf, orderOf, mapOf, writtenOf, verdictOf}
-use Rattle.reports.specs.ReportLaws.{heights-low}
+use Rattle.reports.specs.HeightsLow.{heights-low}
 use Rattle.claims.specs.Told.{setView, reportFrom, verdictFrom, Tells}
 use Rattle.claims.specs.ThirdDemand.{Given, leaves, counts, Makes}
 

@@ -14,7 +14,7 @@ use Rattle.cords.specs.Cords.{cordLimit}
 use Rattle.event.specs.Answers.{Answer, value, refused}
 use Rattle.model.specs.Store.{storeGood}
 use Rattle.takes.specs.Takes.{stored, startOf, bundleOf}
-use Rattle.calls.specs.Calls.{Lent, bundle, heldBy, started, afterCall}
+use Rattle.call_lists.specs.Calls.{Lent, bundle, heldBy, started, afterCall}
 use Rattle.reports.specs.Reports.{writtenOf}
 
 -- "write-out the number of bytes": the written bundle is as many bytes at the front of the output as write-out answers

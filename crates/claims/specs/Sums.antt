@@ -11,9 +11,9 @@ use Rattle.model.specs.Bundle.{countIn}
 use Rattle.model.specs.Store.{storeGood}
 use Rattle.takes.specs.declared.Tally.{Tally}
 use Rattle.takes.specs.Takes.{bundleOf}
-use Rattle.calls.specs.Calls.{Call, Lent}
-use Rattle.calls.specs.CallLaws.{LeftBy}
-use Rattle.reports.specs.declared.Figures.{Figures}
+use Rattle.call_lists.specs.Calls.{Call, Lent}
+use Rattle.call_lists.specs.CallLaws.{LeftBy}
+use Rattle.reports.specs.declared.MapFigures.{MapFigures}
 use Rattle.reports.specs.Reports.{mapOf}
 
 -- "New + repeats + refused of one bundle = its count."
@@ -25,7 +25,7 @@ FiguresAddUp =
 -- "Joins run, the number of joins that the machine ran, = links standing + ended." The map has one row a link.
 abbrev pub JoinsAddUp : Type 0
 JoinsAddUp =
-    (m : Lent) (out : Bytes) (f : Figures) → mapOf cordLimit (m .store) (m .count) out .answer ≡ value f
+    (m : Lent) (out : Bytes) (f : MapFigures) → mapOf cordLimit (m .store) (m .count) out .answer ≡ value f
     → f .joins ≡ f .rows + f .ended
 
 -- check 2 passes a store exactly where its held places and its count are those that a list of calls leaves: any buffer of the

@@ -20,7 +20,7 @@ use Rattle.model.specs.Store.{eventOf}
 use Rattle.model.specs.Map.{mapRows}
 use Rattle.model.specs.MapLaws.{RowBy}
 use Rattle.takes.specs.Takes.{stored, startOf}
-use Rattle.calls.specs.Calls.{Call, Lent, countedEvents, started, afterCalls}
+use Rattle.call_lists.specs.Calls.{Call, Lent, countedEvents, started, afterCalls}
 use Rattle.reports.specs.Reports.{orderOf, mapOf, writtenOf, verdictOf}
 use Rattle.claims.specs.Told.{setView, Tells}
 

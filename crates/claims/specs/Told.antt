@@ -15,7 +15,7 @@ use Rattle.model.specs.Verdicts.{verdict}
 use Rattle.model.specs.Map.{machine}
 use Rattle.model.specs.Rows.{orderBytes, mapBytes, writtenBytes}
 use Rattle.model.specs.Output.{overwritten}
-use Rattle.calls.specs.Calls.{Lent}
+use Rattle.call_lists.specs.Calls.{Lent}
 use Rattle.reports.specs.Reports.{Report, figuresOf, orderOf, mapOf, writtenOf, verdictOf}
 
 -- the set whose members have these bytes

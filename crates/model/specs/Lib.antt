@@ -20,3 +20,4 @@ pub mod Agreement
 pub mod Knowledge
 pub mod StoreLaws
 pub mod Packing
+pub mod Pieces

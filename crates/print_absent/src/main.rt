@@ -1,4 +1,4 @@
 // The printing program with no room.bun.
 fn main() {
-    printer::print();
+    print_program::print();
 }

@@ -1,4 +1,4 @@
 // The printing program with a room.bun of 65,536 bytes.
 fn main() {
-    printer::print();
+    print_program::print();
 }

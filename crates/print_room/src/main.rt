@@ -1,4 +1,4 @@
 // Prints the room of room.bun: here, example 12 of document 01.
 fn main() {
-    printer::print();
+    print_program::print();
 }

@@ -1,4 +1,4 @@
 // The printing program with a room.bun that opens and cannot be read: a directory.
 fn main() {
-    printer::print();
+    print_program::print();
 }

@@ -71,7 +71,7 @@ fn first_state() -> State {
     };
     State {
         count: 0,
-        length: 49152,
+        length: store::STORE_BYTES,
         tally,
     }
 }
@@ -184,6 +184,19 @@ fn start(payload: &[u8], area: &mut [u8], s: State) -> Next {
     })
 }
 
+// The rest of a take's line, and the state after it.
+fn end_taken(area: &[u8], length: usize, count: usize, tally: Tally) -> Next {
+    write_store(count, area);
+    write_word(b" ");
+    write_tally(tally);
+    write_word(b"\n");
+    Next::Go(State {
+        count,
+        length,
+        tally,
+    })
+}
+
 fn take(payload: &[u8], area: &mut [u8], s: State) -> Next {
     let end = within(s.length, area);
     let before = s.tally;
@@ -193,15 +206,7 @@ fn take(payload: &[u8], area: &mut [u8], s: State) -> Next {
     let answer = taken.answer;
     write_word(b"take ");
     write_answer(answer);
-    write_store(taken.count, area);
-    write_word(b" ");
-    write_tally(tally);
-    write_word(b"\n");
-    Next::Go(State {
-        count: taken.count,
-        length: s.length,
-        tally,
-    })
+    end_taken(area, s.length, taken.count, tally)
 }
 
 fn take_bundle(payload: &[u8], area: &mut [u8], s: State) -> Next {
@@ -213,15 +218,7 @@ fn take_bundle(payload: &[u8], area: &mut [u8], s: State) -> Next {
     let answer = taken.answer;
     write_word(b"bundle ");
     write_figures(answer);
-    write_store(taken.count, area);
-    write_word(b" ");
-    write_tally(tally);
-    write_word(b"\n");
-    Next::Go(State {
-        count: taken.count,
-        length: s.length,
-        tally,
-    })
+    end_taken(area, s.length, taken.count, tally)
 }
 
 fn look_up(id: &[u8], store: &[u8], s: State) -> Next {
@@ -378,9 +375,9 @@ fn show_digest(payload: &[u8], s: State) -> Next {
 
 // Writes what the printing program writes for a room.bun of these bytes, in hexadecimal.
 fn write_page(file: &[u8]) {
-    let mut store = printer::store_area();
-    let mut out = printer::text_area();
-    let n = printer::page(file, &mut store, &mut out);
+    let mut store = print_program::store_area();
+    let mut out = print_program::text_area();
+    let n = print_program::page(file, &mut store, &mut out);
     write_hex(octets::part(&out, 0, n));
 }
 

@@ -1,5 +1,7 @@
 pub mod Reports
-pub mod ReportLaws
-pub mod Prepared
-pub mod PreparedLaws
-pub mod Lifted
+pub mod HeldEntries
+pub mod HeightsLow
+pub mod AfterStoreTests
+pub mod OpenedBytes
+pub mod OpenedReports
+pub mod AskedId

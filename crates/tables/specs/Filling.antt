@@ -1,6 +1,6 @@
 -- Tables of numbers, which read 0 past their end; a table that a loop fills from the front, and a list that a loop reads from
 -- the front.
-use Prim.Native.Nat.{ℕ, _+_, _<_}
+use Prim.Native.Nat.{ℕ, _+_, _<_, _≤_}
 use native.Mathlib.Numerals.{add-one}
 use native.Mathlib.Omega.{arith}
 use mathlib.Core.Path.{_≡_, refl, sym, ap, _∙_, subst}
@@ -18,7 +18,7 @@ use mathlib.Core.List.{
   Memᴰ·append-right,
 }
 use lib.Dec.{ltb}
-use lib.ListN.{length, getD, take, drop, set, take-append-drop, List·getD-eq-default}
+use lib.ListN.{length, getD, take, drop, set, length-set, take-append-drop, List·getD-eq-default}
 use lib.Seq.{take-suc, getD-set-same, getD-set-other}
 use borrow.Author.Count.{below-more}
 use borrow.Author.Tests.{ltb-true, ltb-false}
@@ -48,6 +48,32 @@ table-more f T i v l h e =
     below-more (λ (k : ℕ). getD (set T i v) k 0 ≡ f k) i
     (λ k b. getD-set-other T i k v 0 (λ q. omega (arith, q, b)) ∙ h k b)
     (getD-set-same T i v 0 l ∙ e)
+
+-- the first n entries of a table follow a rule
+pub record Filled (f : ℕ → ℕ) (n : ℕ) (table : List ℕ) : Type 0 where
+  pub entry : (k : ℕ) → k < n → getD table k 0 ≡ f k
+
+-- a loop that fills a table of n entries by a rule has filled the first i
+pub record Filling (f : ℕ → ℕ) (n : ℕ) (table : List ℕ) (i : ℕ) : Type 0 where
+  pub size : length table ≡ n
+  pub within : i ≤ n
+  pub made : Filled f i table
+
+pub filling-none : (f : ℕ → ℕ) (table : List ℕ) → Filling f (length table) table 0
+filling-none f table =
+    record { size = refl; within = omega arith; made = record { entry = λ k h. let z : ⊥ = omega (arith, h) in absurd z } }
+
+module _ (f : ℕ → ℕ) (n : ℕ) (table : List ℕ) (i : ℕ) (d : Filling f n table i) where
+  pub filling-more : (v : ℕ) → i < length table → v ≡ f i → Filling f n (set table i v) (i + 1)
+  filling-more v h e =
+      record {
+        size = length-set table i v ∙ d .size;
+        within = omega (arith, h, d .size);
+        made = record { entry = table-more f table i v h (d .made .entry) e };
+      }
+
+  pub filling-all : length table ≤ i → Filled f n table
+  filling-all h = record { entry = λ k l. d .made .entry k (omega (arith, h, l, d .size)) }
 
 -- the members up to an index, and one more
 module _ (l : List ℕ) (i : ℕ) (h : i < length l) where

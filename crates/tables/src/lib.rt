@@ -3,7 +3,7 @@ ghost use mathlib.Core.Path.{_≡_};
 ghost use mathlib.Core.Bool.{_&&_, _||_, not, cond, true, false};
 ghost use Prim.Native.Nat.{ℕ, _+_, _*_, _<_, _≤_};
 ghost use lib.Dec.{eqb};
-ghost use lib.ListN.{length, getD};
+ghost use lib.ListN.{length, getD, take};
 ghost use Rattle.tables.specs.Bits.{bitAt};
 
 // The entry at an index, 0 past the end.
@@ -14,19 +14,25 @@ pub fn entry(table: &[u16], index: u16) -> u16
     if i < table.len() { table[i] } else { 0 }
 }
 
-// Takes every entry away.
-pub fn clear(table: &mut [u16])
-    ensures { λ _. ⌜ ((i : ℕ) → getD (now (table .exit)) i 0 ≡ 0) ⌝ }
+// The first n entries of a list, or all.
+fn first(list: &[u16], n: usize) -> &[u16]
+    ensures { λ r. ⌜ now r ≡ take n (now (list .entry)) ⌝ }
 {
-    let mut i = 0;
-    while i < table.len() {
-        table[i] = 0;
-        i += 1;
+    if list.len() <= n {
+        return list;
     }
+    &list[..n]
+}
+
+// The same of a table: lent as an array, it asks its user for no length.
+pub fn front(table: &[u16; 256], n: usize) -> &[u16]
+    ensures { λ r. ⌜ now r ≡ take n (now (table .entry)) ⌝ }
+{
+    first(table, n)
 }
 
 // Takes every entry away.
-pub fn clear_bytes(table: &mut [u8])
+pub fn clear(table: &mut [u16])
     ensures { λ _. ⌜ ((i : ℕ) → getD (now (table .exit)) i 0 ≡ 0) ⌝ }
 {
     let mut i = 0;
@@ -106,27 +112,31 @@ fn set_row(rows: &mut [u64], k: u16, row: [u64; 4])
 }
 
 // Sets each bit of row k that the row given has.
-pub fn unite(rows: &mut [u64], k: u16, row: [u64; 4])
+pub fn unite(rows: &mut [u64], k: u16, other: [u64; 4])
     requires { ⌜ k * 4 + 4 ≤ length (now rows) ⌝ }
-    ensures { λ _. ⌜ ((a b : ℕ) → bitAt (now (rows .exit)) a b ≡ (bitAt (now (rows .entry)) a b || (eqb a k && bitAt row 0 b))) ⌝ }
+    ensures { λ _. ⌜ ((a b : ℕ) → bitAt (now (rows .exit)) a b ≡ (bitAt (now (rows .entry)) a b || (eqb a k && bitAt other 0 b))) ⌝ }
 {
-    let i = (k as usize) * 4;
-    let a = rows[i] | row[0];
-    let b = rows[i + 1] | row[1];
-    let c = rows[i + 2] | row[2];
-    let d = rows[i + 3] | row[3];
-    set_row(rows, k, [a, b, c, d]);
+    let own = row(&rows[..], k);
+    let both = [
+        own[0] | other[0],
+        own[1] | other[1],
+        own[2] | other[2],
+        own[3] | other[3],
+    ];
+    set_row(rows, k, both);
 }
 
 // Takes away each bit of row k that the row given does not have.
-pub fn meet(rows: &mut [u64], k: u16, row: [u64; 4])
+pub fn meet(rows: &mut [u64], k: u16, other: [u64; 4])
     requires { ⌜ k * 4 + 4 ≤ length (now rows) ⌝ }
-    ensures { λ _. ⌜ ((a b : ℕ) → bitAt (now (rows .exit)) a b ≡ (bitAt (now (rows .entry)) a b && (not (eqb a k) || bitAt row 0 b))) ⌝ }
+    ensures { λ _. ⌜ ((a b : ℕ) → bitAt (now (rows .exit)) a b ≡ (bitAt (now (rows .entry)) a b && (not (eqb a k) || bitAt other 0 b))) ⌝ }
 {
-    let i = (k as usize) * 4;
-    let a = rows[i] & row[0];
-    let b = rows[i + 1] & row[1];
-    let c = rows[i + 2] & row[2];
-    let d = rows[i + 3] & row[3];
-    set_row(rows, k, [a, b, c, d]);
+    let own = row(&rows[..], k);
+    let both = [
+        own[0] & other[0],
+        own[1] & other[1],
+        own[2] & other[2],
+        own[3] & other[3],
+    ];
+    set_row(rows, k, both);
 }

@@ -17,7 +17,8 @@ pub struct Counted {
 
 // Takes one event and counts the answer in a tally by value.
 pub fn take_with(store: &mut [u8], count: usize, e: &[u8], t: Tally) -> Counted
-    ensures { λ r. ⌜ (answerOfTake (r .taken .answer) ≡ takeOf cordLimit (now (store .entry)) count (now (e .entry)) .answer) × (r .taken .count ≡ takeOf cordLimit (now (store .entry)) count (now (e .entry)) .count) ⌝ }
+    ensures { λ r. ⌜ (answerOfTake (r .taken .answer) ≡ takeOf cordLimit (now (store .entry)) count (now (e .entry)) .answer)
+        × (r .taken .count ≡ takeOf cordLimit (now (store .entry)) count (now (e .entry)) .count) ⌝ }
     ensures { λ _. ⌜ now (store .exit) ≡ takeOf cordLimit (now (store .entry)) count (now (e .entry)) .store ⌝ }
     ensures { λ r. ⌜ r .tally ≡ counted t (takeOf cordLimit (now (store .entry)) count (now (e .entry)) .answer) ⌝ }
 {
@@ -29,7 +30,8 @@ pub fn take_with(store: &mut [u8], count: usize, e: &[u8], t: Tally) -> Counted
 
 // Takes one event and counts the answer in the caller's tally.
 pub fn take_counted(store: &mut [u8], count: usize, e: &[u8], tally: &mut Tally) -> Taken
-    ensures { λ r. ⌜ (answerOfTake (r .answer) ≡ takeOf cordLimit (now (store .entry)) count (now (e .entry)) .answer) × (r .count ≡ takeOf cordLimit (now (store .entry)) count (now (e .entry)) .count) ⌝ }
+    ensures { λ r. ⌜ (answerOfTake (r .answer) ≡ takeOf cordLimit (now (store .entry)) count (now (e .entry)) .answer)
+        × (r .count ≡ takeOf cordLimit (now (store .entry)) count (now (e .entry)) .count) ⌝ }
     ensures { λ _. ⌜ now (store .exit) ≡ takeOf cordLimit (now (store .entry)) count (now (e .entry)) .store ⌝ }
     ensures { λ _. ⌜ now (tally .exit) ≡ counted (now (tally .entry)) (takeOf cordLimit (now (store .entry)) count (now (e .entry)) .answer) ⌝ }
 {
@@ -71,7 +73,8 @@ fn tally_answer(t: Tally, answer: BundleAnswer) -> Tally
 
 // Takes a bundle and adds its figures to a tally by value.
 pub fn bundle_with(store: &mut [u8], count: usize, b: &[u8], t: Tally) -> CountedBundle
-    ensures { λ r. ⌜ (answerOfBundle (r .taken .answer) ≡ bundleOf cordLimit (now (store .entry)) count (now (b .entry)) .answer) × (r .taken .count ≡ bundleOf cordLimit (now (store .entry)) count (now (b .entry)) .count) ⌝ }
+    ensures { λ r. ⌜ (answerOfBundle (r .taken .answer) ≡ bundleOf cordLimit (now (store .entry)) count (now (b .entry)) .answer)
+        × (r .taken .count ≡ bundleOf cordLimit (now (store .entry)) count (now (b .entry)) .count) ⌝ }
     ensures { λ _. ⌜ now (store .exit) ≡ bundleOf cordLimit (now (store .entry)) count (now (b .entry)) .store ⌝ }
     ensures { λ r. ⌜ r .tally ≡ tallied t (bundleOf cordLimit (now (store .entry)) count (now (b .entry)) .answer) ⌝ }
 {
@@ -88,7 +91,8 @@ pub fn take_bundle_counted(
     b: &[u8],
     tally: &mut Tally,
 ) -> BundleTaken
-    ensures { λ r. ⌜ (answerOfBundle (r .answer) ≡ bundleOf cordLimit (now (store .entry)) count (now (b .entry)) .answer) × (r .count ≡ bundleOf cordLimit (now (store .entry)) count (now (b .entry)) .count) ⌝ }
+    ensures { λ r. ⌜ (answerOfBundle (r .answer) ≡ bundleOf cordLimit (now (store .entry)) count (now (b .entry)) .answer)
+        × (r .count ≡ bundleOf cordLimit (now (store .entry)) count (now (b .entry)) .count) ⌝ }
     ensures { λ _. ⌜ now (store .exit) ≡ bundleOf cordLimit (now (store .entry)) count (now (b .entry)) .store ⌝ }
     ensures { λ _. ⌜ now (tally .exit) ≡ tallied (now (tally .entry)) (bundleOf cordLimit (now (store .entry)) count (now (b .entry)) .answer) ⌝ }
 {

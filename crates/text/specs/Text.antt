@@ -6,7 +6,7 @@ use lib.Dec.{leb}
 use lib.ListN.{length}
 use Rattle.lists.specs.Bytes.{Bytes}
 use Rattle.event.specs.Answers.{Test, must, firstFailed}
-use Rattle.printing.specs.Text.{roomText}
+use Rattle.text_format.specs.Text.{roomText}
 use Rattle.reports.specs.Reports.{heldView, storeTests, Report, report}
 
 -- 1 and 2; 10: "output too short" for the text

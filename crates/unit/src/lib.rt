@@ -1,10 +1,11 @@
 // The unit: the calls that a door unit offers, and the types of their answers. Nothing else is public here, and no call has a
 // `requires`. Each call is stated, coded and proved in the crate that decides it; a crate that calls the unit rests on these too.
+pub use bundles::first_event;
 pub use event::Refusal;
 pub use event::number;
 pub use reports::CountAnswer;
-pub use reports::Figures;
 pub use reports::MapAnswer;
+pub use reports::MapFigures;
 pub use reports::VerdictAnswer;
 pub use reports::map;
 pub use reports::order;
@@ -16,7 +17,6 @@ pub use takes::BundleTaken;
 pub use takes::TakeAnswer;
 pub use takes::Taken;
 pub use takes::Tally;
-pub use takes::first_event;
 pub use takes::start;
 pub use takes::take;
 pub use takes::take_bundle;

@@ -28,9 +28,9 @@ use Rattle.event.specs.declared.Refusal.the-variants.{
 use Rattle.sha256.specs.Sha256.{sha256}
 use Rattle.model.specs.Rows.{orderBytes, mapBytes, writtenBytes}
 use Rattle.store.specs.LookUp.{heldIds, lookUpTests, lookUpOf}
+use Rattle.bundles.specs.FirstEvent.{firstTests, firstOf}
 use Rattle.takes.specs.Takes.{startTests, startOf, takeTests, takeAnswer, takeOf, bundleTests, bundleOf}
 use Rattle.takes.specs.TakeLaws.{take-answers}
-use Rattle.takes.specs.FirstEvent.{firstTests, firstOf}
 use Rattle.reports.specs.Reports.{heldView, writeTests, verdictTests, report, orderOf, mapOf, writtenOf, verdictOf}
 use Rattle.text.specs.Text.{textTests, textOf}
 use Rattle.unit_c.specs.Numbers.{idTests, idOf, idsTests, idsOf}

@@ -6,14 +6,14 @@ ghost use mathlib.Core.Path.{_≡_};
 ghost use Rattle.cords.specs.Cords.{cordLimit};
 ghost use Rattle.event.specs.Answers.{shownNumber};
 ghost use Rattle.store.specs.LookUp.{lookUpOf};
+ghost use Rattle.bundles.specs.FirstEvent.{firstOf};
 ghost use Rattle.takes.specs.Takes.{answerOfTake, answerOfBundle, startOf, takeOf, counted, bundleOf};
-ghost use Rattle.takes.specs.FirstEvent.{firstOf};
 ghost use Rattle.tally.specs.Tallies.{tallied};
 ghost use Rattle.reports.specs.Reports.{orderOf, verdictOf, mapOf, writtenOf, answerOfCount};
 ghost use Rattle.text.specs.Text.{textOf};
 ghost use Rattle.unit_c.specs.Numbers.{kept, placedNumber, figureList, tallyIn, idOf, idsOf};
+use bundles::FirstAnswer;
 use store::FindAnswer;
-use takes::FirstAnswer;
 use unit::BundleAnswer;
 use unit::CountAnswer;
 use unit::MapAnswer;
@@ -112,7 +112,8 @@ pub extern "C" fn pelchunda_take(
     ensures { λ r. ⌜ r ≡ shownNumber (takeOf cordLimit (now (store .entry)) (now (count .entry)) (now (event .entry)) .answer) ⌝ }
     ensures { λ _. ⌜ now (store .exit) ≡ takeOf cordLimit (now (store .entry)) (now (count .entry)) (now (event .entry)) .store ⌝ }
     ensures { λ _. ⌜ now (count .exit) ≡ takeOf cordLimit (now (store .entry)) (now (count .entry)) (now (event .entry)) .count ⌝ }
-    ensures { λ _. ⌜ now (repeat .exit) ≡ kept placedNumber (now (repeat .entry)) (takeOf cordLimit (now (store .entry)) (now (count .entry)) (now (event .entry)) .answer) ⌝ }
+    ensures { λ _. ⌜ now (repeat .exit)
+        ≡ kept placedNumber (now (repeat .entry)) (takeOf cordLimit (now (store .entry)) (now (count .entry)) (now (event .entry)) .answer) ⌝ }
 {
     let taken = unit::take(store, *count, event);
     *count = taken.count;
@@ -132,8 +133,10 @@ pub extern "C" fn pelchunda_take_counted(
     ensures { λ r. ⌜ r ≡ shownNumber (takeOf cordLimit (now (store .entry)) (now (count .entry)) (now (event .entry)) .answer) ⌝ }
     ensures { λ _. ⌜ now (store .exit) ≡ takeOf cordLimit (now (store .entry)) (now (count .entry)) (now (event .entry)) .store ⌝ }
     ensures { λ _. ⌜ now (count .exit) ≡ takeOf cordLimit (now (store .entry)) (now (count .entry)) (now (event .entry)) .count ⌝ }
-    ensures { λ _. ⌜ now (repeat .exit) ≡ kept placedNumber (now (repeat .entry)) (takeOf cordLimit (now (store .entry)) (now (count .entry)) (now (event .entry)) .answer) ⌝ }
-    ensures { λ _. ⌜ now (tally .exit) ≡ figureList (counted (tallyIn (now (tally .entry))) (takeOf cordLimit (now (store .entry)) (now (count .entry)) (now (event .entry)) .answer)) ⌝ }
+    ensures { λ _. ⌜ now (repeat .exit)
+        ≡ kept placedNumber (now (repeat .entry)) (takeOf cordLimit (now (store .entry)) (now (count .entry)) (now (event .entry)) .answer) ⌝ }
+    ensures { λ _. ⌜ now (tally .exit)
+        ≡ figureList (counted (tallyIn (now (tally .entry))) (takeOf cordLimit (now (store .entry)) (now (count .entry)) (now (event .entry)) .answer)) ⌝ }
 {
     let before = to_tally(*tally);
     let done = tally::take_with(store, *count, event, before);
@@ -156,7 +159,8 @@ pub extern "C" fn pelchunda_take_bundle(
     ensures { λ r. ⌜ r ≡ shownNumber (bundleOf cordLimit (now (store .entry)) (now (count .entry)) (now (bundle .entry)) .answer) ⌝ }
     ensures { λ _. ⌜ now (store .exit) ≡ bundleOf cordLimit (now (store .entry)) (now (count .entry)) (now (bundle .entry)) .store ⌝ }
     ensures { λ _. ⌜ now (count .exit) ≡ bundleOf cordLimit (now (store .entry)) (now (count .entry)) (now (bundle .entry)) .count ⌝ }
-    ensures { λ _. ⌜ now (figures .exit) ≡ kept figureList (now (figures .entry)) (bundleOf cordLimit (now (store .entry)) (now (count .entry)) (now (bundle .entry)) .answer) ⌝ }
+    ensures { λ _. ⌜ now (figures .exit)
+        ≡ kept figureList (now (figures .entry)) (bundleOf cordLimit (now (store .entry)) (now (count .entry)) (now (bundle .entry)) .answer) ⌝ }
 {
     let left = unit::take_bundle(store, *count, bundle);
     *count = left.count;
@@ -176,8 +180,10 @@ pub extern "C" fn pelchunda_take_bundle_counted(
     ensures { λ r. ⌜ r ≡ shownNumber (bundleOf cordLimit (now (store .entry)) (now (count .entry)) (now (bundle .entry)) .answer) ⌝ }
     ensures { λ _. ⌜ now (store .exit) ≡ bundleOf cordLimit (now (store .entry)) (now (count .entry)) (now (bundle .entry)) .store ⌝ }
     ensures { λ _. ⌜ now (count .exit) ≡ bundleOf cordLimit (now (store .entry)) (now (count .entry)) (now (bundle .entry)) .count ⌝ }
-    ensures { λ _. ⌜ now (figures .exit) ≡ kept figureList (now (figures .entry)) (bundleOf cordLimit (now (store .entry)) (now (count .entry)) (now (bundle .entry)) .answer) ⌝ }
-    ensures { λ _. ⌜ now (tally .exit) ≡ figureList (tallied (tallyIn (now (tally .entry))) (bundleOf cordLimit (now (store .entry)) (now (count .entry)) (now (bundle .entry)) .answer)) ⌝ }
+    ensures { λ _. ⌜ now (figures .exit)
+        ≡ kept figureList (now (figures .entry)) (bundleOf cordLimit (now (store .entry)) (now (count .entry)) (now (bundle .entry)) .answer) ⌝ }
+    ensures { λ _. ⌜ now (tally .exit)
+        ≡ figureList (tallied (tallyIn (now (tally .entry))) (bundleOf cordLimit (now (store .entry)) (now (count .entry)) (now (bundle .entry)) .answer)) ⌝ }
 {
     let before = to_tally(*tally);
     let done = tally::bundle_with(store, *count, bundle, before);
@@ -187,21 +193,6 @@ pub extern "C" fn pelchunda_take_bundle_counted(
     *count = taken.count;
     let answer = taken.answer;
     show_figures(answer, figures)
-}
-
-// The place of the held event with an id: its 192 bytes start at 192 times the place.
-#[no_mangle]
-pub extern "C" fn pelchunda_look_up(store: &[u8], count: usize, id: &[u8], place: &mut u16) -> u8
-    ensures { λ r. ⌜ r ≡ shownNumber (lookUpOf cordLimit (now (store .entry)) count (now (id .entry))) ⌝ }
-    ensures { λ _. ⌜ now (place .exit) ≡ kept (λ p. p) (now (place .entry)) (lookUpOf cordLimit (now (store .entry)) count (now (id .entry))) ⌝ }
-{
-    match store::find(store, count, id) {
-        FindAnswer::Place(found) => {
-            *place = found;
-            0
-        }
-        FindAnswer::Refused(refusal) => unit::number(refusal),
-    }
 }
 
 // Writes a row of 36 bytes for each settled event, in order; `rows` is their number.
@@ -218,21 +209,6 @@ pub extern "C" fn pelchunda_order(
 {
     let answer = unit::order(store, count, out);
     show_count(answer, rows)
-}
-
-// The verdict of the held event with an id: 0 waiting, 1 unsound, 2 void, 3 effective.
-#[no_mangle]
-pub extern "C" fn pelchunda_verdict(store: &[u8], count: usize, id: &[u8], verdict: &mut u8) -> u8
-    ensures { λ r. ⌜ r ≡ shownNumber (verdictOf cordLimit (now (store .entry)) count (now (id .entry))) ⌝ }
-    ensures { λ _. ⌜ now (verdict .exit) ≡ kept (λ n. n) (now (verdict .entry)) (verdictOf cordLimit (now (store .entry)) count (now (id .entry))) ⌝ }
-{
-    match unit::verdict(store, count, id) {
-        VerdictAnswer::Verdict(found) => {
-            *verdict = found;
-            0
-        }
-        VerdictAnswer::Refused(refusal) => unit::number(refusal),
-    }
 }
 
 // Writes a row of 8 bytes for each link, by port A: the number of rows, the links ended and the joins run.
@@ -294,13 +270,43 @@ pub extern "C" fn pelchunda_text(
     show_count(answer, bytes)
 }
 
+// The place of the held event with an id: its 192 bytes start at 192 times the place.
+#[no_mangle]
+pub extern "C" fn pelchunda_look_up(store: &[u8], count: usize, id: &[u8], place: &mut u16) -> u8
+    ensures { λ r. ⌜ r ≡ shownNumber (lookUpOf cordLimit (now (store .entry)) count (now (id .entry))) ⌝ }
+    ensures { λ _. ⌜ now (place .exit) ≡ kept (λ p. p) (now (place .entry)) (lookUpOf cordLimit (now (store .entry)) count (now (id .entry))) ⌝ }
+{
+    match store::find(store, count, id) {
+        FindAnswer::Place(found) => {
+            *place = found;
+            0
+        }
+        FindAnswer::Refused(refusal) => unit::number(refusal),
+    }
+}
+
+// The verdict of the held event with an id: 0 waiting, 1 unsound, 2 void, 3 effective.
+#[no_mangle]
+pub extern "C" fn pelchunda_verdict(store: &[u8], count: usize, id: &[u8], verdict: &mut u8) -> u8
+    ensures { λ r. ⌜ r ≡ shownNumber (verdictOf cordLimit (now (store .entry)) count (now (id .entry))) ⌝ }
+    ensures { λ _. ⌜ now (verdict .exit) ≡ kept (λ n. n) (now (verdict .entry)) (verdictOf cordLimit (now (store .entry)) count (now (id .entry))) ⌝ }
+{
+    match unit::verdict(store, count, id) {
+        VerdictAnswer::Verdict(found) => {
+            *verdict = found;
+            0
+        }
+        VerdictAnswer::Refused(refusal) => unit::number(refusal),
+    }
+}
+
 // Where the first event of a bundle starts: its 192 bytes are at that offset.
 #[no_mangle]
 pub extern "C" fn pelchunda_first_event(bundle: &[u8], offset: &mut usize) -> u8
     ensures { λ r. ⌜ r ≡ shownNumber (firstOf (now (bundle .entry))) ⌝ }
     ensures { λ _. ⌜ now (offset .exit) ≡ kept (λ n. n) (now (offset .entry)) (firstOf (now (bundle .entry))) ⌝ }
 {
-    match takes::find_first(bundle) {
+    match bundles::find_first(bundle) {
         FirstAnswer::Offset(at) => {
             *offset = at;
             0
@@ -315,7 +321,7 @@ pub extern "C" fn pelchunda_id(event: &[u8], id: &mut [u8]) -> u8
     ensures { λ r. ⌜ r ≡ shownNumber (idOf (now (event .entry)) (now (id .entry)) .answer) ⌝ }
     ensures { λ _. ⌜ now (id .exit) ≡ idOf (now (event .entry)) (now (id .entry)) .out ⌝ }
 {
-    if event.len() != 192 {
+    if event.len() != event::EVENT_BYTES {
         return 1;
     }
     if id.len() < 32 {
@@ -332,13 +338,13 @@ pub extern "C" fn pelchunda_ids(events: &[u8], ids: &mut [u8]) -> u8
     ensures { λ r. ⌜ r ≡ shownNumber (idsOf (now (events .entry)) (now (ids .entry)) .answer) ⌝ }
     ensures { λ _. ⌜ now (ids .exit) ≡ idsOf (now (events .entry)) (now (ids .entry)) .out ⌝ }
 {
-    let n = events.len() / 192;
-    if !((events.len() == n * 192) & (n <= 256)) {
+    let n = events.len() / event::EVENT_BYTES;
+    if !((events.len() == n * event::EVENT_BYTES) & (n <= 256)) {
         return 1;
     }
     if ids.len() < n * 32 {
         return 10;
     }
-    digests::event_ids(events, n, ids);
+    event_ids::find_ids(events, n, ids);
     0
 }

@@ -102,7 +102,7 @@ fn table(events: &[u8], n: usize)
     requires { ⌜ n ≤ 9 ⌝ }
 {
     let mut ids = [0u8; 320];
-    digests::event_ids(events, n, &mut ids);
+    event_ids::find_ids(events, n, &mut ids);
     let mut i = 0;
     while i <= n {
         io::write_all(STDOUT_FILENO, b"ids ");

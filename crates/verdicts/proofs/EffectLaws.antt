@@ -22,6 +22,7 @@ use borrow.Author.Tests.{eqb-true, eqb-false, eq-eqb, ne-eqb, ltb-true, lt-ltb}
 use Rattle.lists.specs.Cases.{byBool, clash, bool-eq, and→, and←, or→, or←l, or←r}
 use Rattle.lists.specs.Bytes.{Bytes}
 use Rattle.lists.specs.Tests.{memberOf, member→, member←}
+use Rattle.event.specs.Fields.{eventAt}
 use Rattle.model.specs.Events.{Id, Event, isCreate, isRevoke}
 use Rattle.model.specs.Heights.{findIn, View, view, settled, ancestor}
 use Rattle.model.specs.Verdicts.{line, sound, effective, void, verdict}
@@ -32,26 +33,26 @@ use Rattle.model.specs.SetLaws.{find→}
 use Rattle.model.specs.SoundLaws.{sound-settled, sound-creator, sound→, presents}
 use Rattle.model.specs.VoidLaws.{Struck as StruckEvent, EffectiveBy, effective-unique}
 use Rattle.model.specs.Store.{eventOf, heldIn}
-use Rattle.model.specs.StoreLaws.{checked→}
 use Rattle.model.specs.Packing.{kind-other}
 use Rattle.store.specs.Tables.{slotIn}
-use Rattle.history.specs.Parents.{eventAt, placeBy}
-use Rattle.history.specs.LevelLaws.{bySlot, distinct-held, own-place, creates, later}
-use Rattle.history.specs.Order.{ranked}
-use Rattle.history.specs.OrderLaws.{ranked→, ranked←}
-use Rattle.history.specs.Placed.{heldAt, idOf, place-of, held-at, listed→, listed←, one-id, level-low}
+use Rattle.ordering.specs.Named.{placeBy}
+use Rattle.ordering.specs.LevelLaws.{bySlot, own-place, creates, later}
+use Rattle.ordering.specs.Order.{ranked}
+use Rattle.ordering.specs.OrderLaws.{ranked→, ranked←}
+use Rattle.ordering.specs.Placed.{heldAt, idOf, place-of, held-at, one-id, slot-place, level-low, settled-in, in-settled}
 use Rattle.authority.specs.Lines.{Authority}
 use Rattle.authority.specs.AuthorityLaws.{revoke-other}
-use Rattle.authority.specs.PlaceLaws.{Tables, few, found, place-at, level-is, level-of, lower}
-use Rattle.verdicts.specs.Effects.{Graded, Struck, Effects}
-use Rattle.verdicts.specs.Verdicts.{rankOf, RankTable, verdictOf, VerdictTable}
+use Rattle.authority.specs.PlaceLaws.{Tables, few, found, level-is, level-of, lower}
+use Rattle.verdicts.specs.Effects.{Within, Graded, Struck, Effects}
+use Rattle.tables.specs.Filling.{Filled}
+use Rattle.verdicts.specs.Verdicts.{rankOf, verdictOf}
 
 -- place t is on the line of place k
 unfoldable pub onLine : Bytes → ℕ → ℕ → ℕ → Bool
 onLine store n k t = ltb t n && memberOf (idOf store t) (line (view (heldIn store n)) (idOf store k))
 
-module _ {entry : ℕ → ℕ → ℕ} {store : Bytes} {n : ℕ} {ids : Bytes} {index P T M Q G : List ℕ}
-    (tables : Tables entry store n ids index P T M Q G) (S : List ℕ) (auth : Authority store n T Q G S) where
+module _ {store : Bytes} {n : ℕ} {ids : Bytes} {index P T M Q G : List ℕ}
+    (tables : Tables store n ids index P T M Q G) (S : List ℕ) (auth : Authority store n Q G S) where
   abbrev held : List Event
   held = heldIn store n
 
@@ -59,7 +60,7 @@ module _ {entry : ℕ → ℕ → ℕ} {store : Bytes} {n : ℕ} {ids : Bytes} {
   seen = view (heldIn store n)
 
   same-id : (p k : ℕ) → p < n → k < n → idOf store p ≡ idOf store k → p ≡ k
-  same-id = one-id entry store n (tables .good) ids index (tables .indexed)
+  same-id = one-id (tables .levelled .loaded)
 
   -- a sound place other than the creator's
   record Later (k : ℕ) : Type 0 where
@@ -74,13 +75,13 @@ module _ {entry : ℕ → ℕ → ℕ} {store : Bytes} {n : ℕ} {ids : Bytes} {
   one→sound k h t = sym (auth .sound-is k h) ∙ eq-eqb (getD S k 0) 1 t
 
   no-create : (k : ℕ) → k < n → (k ≡ 0 → ⊥) → isCreate (heldAt store k) ≡ false
-  no-create k h ne = kind-other (eventAt store k) (later entry store n (tables .good) ids index (tables .indexed) k h ne .no-create)
+  no-create k h ne = kind-other (eventAt store k) (later (tables .levelled .loaded) k h ne .no-create)
 
   first-low : 0 < n
-  first-low = omega (arith, checked→ entry store n (tables .good) .at-least)
+  first-low = omega (arith, tables .levelled .loaded .at-least)
 
   first-line : line seen (idOf store 0) ≡ []
-  first-line = line-creator held (idOf store 0) (heldAt store 0) (found tables 0 first-low) (creates entry store n (tables .good) ids index (tables .indexed))
+  first-line = line-creator held (idOf store 0) (heldAt store 0) (found tables 0 first-low) (creates (tables .levelled .loaded))
 
   settled-some : (k : ℕ) → k < n → sound seen (idOf store k) ≡ true → getD T k 0 ≡ 0 → ⊥
   settled-some k h s = level-of tables k h (sound-settled held (idOf store k) s)
@@ -187,7 +188,7 @@ module _ {entry : ℕ → ℕ → ℕ} {store : Bytes} {n : ℕ} {ids : Bytes} {
         low = h;
         not-first = λ e.
             clash (isCreate (heldAt store r))
-            (ap (λ (x : ℕ). isCreate (heldAt store x)) e ∙ creates entry store n (tables .good) ids index (tables .indexed))
+            (ap (λ (x : ℕ). isCreate (heldAt store x)) e ∙ creates (tables .levelled .loaded))
             (revoke-other (heldAt store r .body) t);
         is-sound = s;
       }
@@ -216,9 +217,10 @@ module _ {entry : ℕ → ℕ → ℕ} {store : Bytes} {n : ℕ} {ids : Bytes} {
 
   -- ── the list by rank ────────────────────────────────────────────────────────────────────────────────────────────────
 
-  module _ (R : List ℕ) (ranks : RankTable n T Q S R) where
+  -- l are the settled places
+  module _ (R l : List ℕ) (ranks : Filled (rankOf T Q S) n R) (settled-places : l ≡ ranked T (take n index) 256) where
     abbrev byRank : List ℕ
-    byRank = ranked R (take n index) 256
+    byRank = ranked R l 256
 
     rank-is : (k : ℕ) → Later k → getD R k 0 ≡ getD T (getD Q k 0) 0
     unfolding rankOf
@@ -229,8 +231,8 @@ module _ {entry : ℕ → ℕ → ℕ} {store : Bytes} {n : ℕ} {ids : Bytes} {
     in-list k a =
         let p = presented-of k a in
         let e = rank-is k a in
-        ranked← R (take n index) 256 k (listed← entry store n (tables .good) ids index (tables .indexed) k (a .low))
-        (omega (arith, e, p .level-given)) (omega (arith, e, level-low entry store n (tables .good) ids index (tables .indexed) P (tables .parents) T (tables .long) (tables .fixed) (getD Q k 0)))
+        ranked← R l 256 k (subst (List·Memᴰ k) (sym settled-places) (settled-in (tables .levelled) k (a .low) (settled-some k (a .low) (a .is-sound))))
+        (omega (arith, e, p .level-given)) (omega (arith, e, level-low (tables .levelled) (getD Q k 0)))
 
     of-list : (k : ℕ) → List·Memᴰ k byRank → Later k
     unfolding rankOf
@@ -241,14 +243,21 @@ module _ {entry : ℕ → ℕ → ℕ} {store : Bytes} {n : ℕ} {ids : Bytes} {
         (λ t. record { low = h; not-first = eqb-false k 0 f; is-sound = one→sound k h (eqb-true (getD S k 0) 1 t) })
         (λ g. none (ranks .entry k h ∙ rw (f, g))))
       where
-        w : List·Memᴰ k (take n index) × (1 ≤ getD R k 0) × (getD R k 0 ≤ 256)
-        w = ranked→ R (take n index) 256 k m
+        w : List·Memᴰ k l × (1 ≤ getD R k 0) × (getD R k 0 ≤ 256)
+        w = ranked→ R l 256 k m
 
         h : k < n
-        h = listed→ entry store n (tables .good) ids index (tables .indexed) k (w .0)
+        h = in-settled (tables .levelled) k (subst (List·Memᴰ k) settled-places (w .0)) .0
 
         none : getD R k 0 ≡ 0 → Later k
         none e = let z : ⊥ = omega (arith, e, w .1) in absurd z
+
+    -- they fit the tables
+    pub listed-fit : Within Q byRank
+    listed-fit =
+        record {
+          each = λ k m. let a = of-list k m in (omega (arith, a .low, few tables), omega (arith, presented-of k a .low, few tables));
+        }
 
     -- what the loop over the list asks for
     pub graded : Graded (onLine store n) (λ k. getD R k 0) Q G byRank
@@ -276,20 +285,20 @@ module _ {entry : ℕ → ℕ → ℕ} {store : Bytes} {n : ℕ} {ids : Bytes} {
 
       byTable-at : (k : ℕ) → k < n → byTable (idOf store k) ≡ eqb (getD E k 0) 1
       unfolding eventOf
-      byTable-at k h = ap (λ (p : ℕ). eqb (getD E p 0) 1) (own-place entry store n (tables .good) ids index (tables .indexed) k h)
+      byTable-at k h = ap (λ (p : ℕ). eqb (getD E p 0) 1) (own-place (tables .levelled .loaded) k h)
 
       -- an id that is found is that of a place
       held-place : (i : Id) (e : Event) → findIn held i ≡ some e → (p : ℕ) × (p < n) × (i ≡ idOf store p)
       held-place i e q =
           let m = find→ held i e q in
-          let w = place-of entry store n (tables .good) ids index (tables .indexed) e (m .0) in
+          let w = place-of (tables .levelled .loaded) e (m .0) in
           (w .0, w .1, sym (m .1) ∙ ap (λ (x : Event). x .ident) (w .2))
 
       effective-sound : (k : ℕ) → k < n → getD E k 0 ≡ 1 → sound seen (idOf store k) ≡ true
       effective-sound k h y =
           byBool (eqb k 0)
           (λ t.
-          let first = sound-creator held (idOf store 0) (heldAt store 0) (found tables 0 first-low) (creates entry store n (tables .good) ids index (tables .indexed)) in
+          let first = sound-creator held (idOf store 0) (heldAt store 0) (found tables 0 first-low) (creates (tables .levelled .loaded)) in
           ap (λ (x : ℕ). sound seen (idOf store x)) (eqb-true k 0 t) ∙ first)
           (λ f. byBool (sound seen (idOf store k)) (λ t. t)
           (λ g.
@@ -300,7 +309,7 @@ module _ {entry : ℕ → ℕ → ℕ} {store : Bytes} {n : ℕ} {ids : Bytes} {
       -- a revoke strikes a place in the table exactly when it strikes the event there
       struck→ : (k : ℕ) → Later k → StruckEvent held byTable (idOf store k) → Struck (onLine store n) G M byRank E k
       struck→ k a x =
-          let w = place-of entry store n (tables .good) ids index (tables .indexed) (x .revoker) (x .held) in
+          let w = place-of (tables .levelled .loaded) (x .revoker) (x .held) in
           let r = w .0 in
           let same = w .2 in
           let id = ap (λ (e : Event). e .ident) same in
@@ -326,7 +335,7 @@ module _ {entry : ℕ → ℕ → ℕ} {store : Bytes} {n : ℕ} {ids : Bytes} {
           let v = revoke-by r (b .low) (b .is-sound) (on .0) in
           record {
             revoker = heldAt store r;
-            held = held-at entry store n (tables .good) ids index (tables .indexed) r (b .low);
+            held = held-at (tables .levelled .loaded) r (b .low);
             is-revoke = v .is-revoke;
             is-effective = byTable-at r (b .low) ∙ eq-eqb (getD E r 0) 1 (x .is-effective);
             target-on-line = Memᴰ·cast (v .target-id) (on .1);
@@ -345,7 +354,7 @@ module _ {entry : ℕ → ℕ → ℕ} {store : Bytes} {n : ℕ} {ids : Bytes} {
       only-sound i y =
           bySlot (slotIn ids 0 (take n index) i)
           (λ p s.
-          let w = place-at tables i p s in
+          let w = slot-place (tables .levelled .loaded) i p s in
           ap (sound seen) (sym (w .1))
           ∙ effective-sound p (w .0) (eqb-true (getD E p 0) 1 (sym (byTable-at p (w .0)) ∙ ap byTable (w .1) ∙ y)))
           (λ g s.
@@ -389,10 +398,10 @@ module _ {entry : ℕ → ℕ → ℕ} {store : Bytes} {n : ℕ} {ids : Bytes} {
 
       -- the table has 1 exactly where the event is effective
       effect-at : (k : ℕ) → k < n → eqb (getD E k 0) 1 ≡ effective seen (idOf store k)
-      effect-at k h = sym (byTable-at k h) ∙ effective-unique held (distinct-held entry store n (tables .good) ids index (tables .indexed)) byTable by-table (idOf store k)
+      effect-at k h = sym (byTable-at k h) ∙ effective-unique held (tables .levelled .loaded .distinct) byTable by-table (idOf store k)
 
       -- and the verdicts from it are the model's
-      pub verdict-at : (Z : List ℕ) → VerdictTable n T S E Z → (k : ℕ) → k < n → getD Z k 0 ≡ verdict seen (idOf store k)
+      pub verdict-at : (Z : List ℕ) → Filled (verdictOf T S E) n Z → (k : ℕ) → k < n → getD Z k 0 ≡ verdict seen (idOf store k)
       unfolding verdictOf verdict void
       verdict-at Z table k h = table .entry k h ∙ go (getD T k 0) refl
         where

@@ -1,4 +1,4 @@
-pub mod Laws
+pub mod Turns
 pub mod RankLaws
 pub mod EffectLaws
-pub mod JudgeLaws
+pub mod Steps

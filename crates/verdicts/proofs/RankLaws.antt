@@ -8,8 +8,8 @@ use mathlib.Core.List.{List, [], _∷_, List·Memᴰ, List·Memᴰ·cases-cons, 
 use lib.ListN.{length, getD, take}
 use Rattle.lists.specs.Bytes.{Bytes, precedes→}
 use Rattle.lists.specs.Sorting.{Ascending, ascending-once, mem-getD}
-use Rattle.history.specs.Order.{ranked}
-use Rattle.history.specs.OrderLaws.{ranked-ascending, earlier}
+use Rattle.ordering.specs.Order.{ranked}
+use Rattle.ordering.specs.OrderLaws.{ranked-ascending, earlier}
 use Rattle.verdicts.specs.Effects.{ByRank}
 
 module _ (R l : List ℕ) (key : ℕ → Bytes) (sorted : Ascending key l) where

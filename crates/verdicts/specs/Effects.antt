@@ -8,6 +8,10 @@ use lib.Dec.{eqb}
 use lib.ListN.{length, getD, take}
 use Rattle.tables.specs.Bits.{bitAt}
 
+-- the listed places, and those that they present, are below 256
+pub record Within (Q l : List ℕ) : Type 0 where
+  pub each : (k : ℕ) → List·Memᴰ k l → (k < 256) × (getD Q k 0 < 256)
+
 -- a list of places by ascending rank, each once
 pub record ByRank (rank : ℕ → ℕ) (l : List ℕ) : Type 0 where
   pub once : (i : ℕ) → i < length l → List·Memᴰ (getD l i 0) (take i l) → ⊥

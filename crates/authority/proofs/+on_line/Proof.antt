@@ -1,7 +1,7 @@
 use Prim.Native.Nat.{ℕ, _<_}
 use native.Mathlib.Omega.{arith}
 use mathlib.Core.Path.{_∙_}
-use Rattle.authority.proofs.Laws.{line-none, line-end, line-met, line-on}
+use Rattle.authority.proofs.Answers.{line-none, line-end, line-met, line-on}
 use borrow.Author.Needs.{needs}
 use borrow.Fn.Kinds.{In}
 use borrow.Fn.PlainCycle.{Measures, is, falls, and}
@@ -43,7 +43,7 @@ on-line-returns-2 : (t : ℕ) → on-line-lts.Need-returns-2 (
   on-line-below t,
   on-line.Post,
 ) (on-line-at t) on-line.Post
-on-line-returns-2 t c = line-end _ _ _ _ (c .before .entry .ensures) _ (c .before .before .if1 .left) (c .if2 .taken)
+on-line-returns-2 t c = line-end _ _ _ _ (c .before .entry .ensures) _ (c .before .before .before .if1 .left) (c .if2 .taken)
 
 on-line-returns-3 : (t : ℕ) → on-line-lts.Need-returns-3 (
   entry-reads.Asked,
@@ -51,7 +51,9 @@ on-line-returns-3 : (t : ℕ) → on-line-lts.Need-returns-3 (
   on-line-below t,
   on-line.Post,
 ) (on-line-at t) on-line.Post
-on-line-returns-3 t c = line-met _ _ _ _ (c .before .before .entry .ensures) _ (c .before .before .before .if1 .left) (c .before .if2 .left) (c .if3 .taken)
+on-line-returns-3 t c =
+    line-met _ _ _ _ (c .before .before .entry .ensures)
+    _ (c .before .before .before .before .if1 .left) (c .before .if2 .left) (c .if3 .taken)
 
 on-line-sub-on-line : (t : ℕ) → on-line-lts.Need-sub-on-line (
   entry-reads.Asked,
@@ -75,7 +77,9 @@ on-line-returns-4 : (t : ℕ) → on-line-lts.Need-returns-4 (
   on-line-below t,
   on-line.Post,
 ) (on-line-at t) on-line.Post
-on-line-returns-4 t c = c .on-line .ensures ∙ line-on _ _ _ _ (c .before .before .before .entry .ensures) _ (c .before .before .before .before .if1 .left) (c .before .before .if2 .left) (c .before .if3 .left)
+on-line-returns-4 t c =
+    c .on-line .ensures ∙ line-on _ _ _ _ (c .before .before .before .entry .ensures)
+    _ (c .before .before .before .before .before .if1 .left) (c .before .before .if2 .left) (c .before .if3 .left)
 
 pub +on-line-spec : {M : Type 1} → statement M
 +on-line-spec = close μ-on-line λ t. on-line-lts.spec (

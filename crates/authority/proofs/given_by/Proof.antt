@@ -34,15 +34,4 @@ returns-5 c = rw (c .enum-told4 .given .1)
 
 pub given-by-spec : {M : Type 1} → statement M
 given-by-spec =
-    tie.close
-    (tie.spec
-    enum-told
-    enum-known-body
-    enum-told-2
-    enum-told-3
-    enum-told-4
-    returns
-    returns-2
-    returns-3
-    returns-4
-    returns-5)
+    tie.close (tie.spec enum-told enum-known-body enum-told-2 enum-told-3 enum-told-4 returns returns-2 returns-3 returns-4 returns-5)

@@ -1,4 +1,4 @@
-use Rattle.authority.proofs.Laws.{has-none}
+use Rattle.authority.proofs.Answers.{has-none}
 use borrow.Author.Needs.{needs}
 use Rattle.authority.proofs.has_right.Statement.{statement}
 use Rattle.authority.proofs.has_right.Tie as tie

@@ -1,4 +1,4 @@
-use Rattle.authority.proofs.Laws.{within-is}
+use Rattle.authority.proofs.Answers.{within-is}
 use borrow.Author.Needs.{needs}
 use Rattle.authority.proofs.lies_within.Statement.{statement}
 use Rattle.authority.proofs.lies_within.Tie as tie
@@ -31,12 +31,4 @@ returns c =
 
 pub lies-within-spec : {M : Type 1} → statement M
 lies-within-spec =
-    tie.close
-    (tie.spec
-    has-right-requires
-    has-right-requires-2
-    has-right-requires-3
-    has-right-requires-4
-    has-right-requires-5
-    has-right-requires-6
-    returns)
+    tie.close (tie.spec has-right-requires has-right-requires-2 has-right-requires-3 has-right-requires-4 has-right-requires-5 has-right-requires-6 returns)

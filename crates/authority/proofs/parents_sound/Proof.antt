@@ -6,20 +6,29 @@ use Rattle.authority.proofs.parents_sound.Tie as tie
 mul-i : tie.Need-mul-i
 mul-i c = search needs
 
-entry-requires : tie.Need-entry-requires
-entry-requires c κs = search needs
+mul-a : tie.Need-mul-a
+mul-a c = search needs
 
-add-entry : tie.Need-add-entry
-add-entry c = search needs
+element-copy-out-a : tie.Need-element-copy-out-a
+element-copy-out-a c = search needs
 
-entry-requires-2 : tie.Need-entry-requires-2
-entry-requires-2 c κs = search needs
+add-b : tie.Need-add-b
+add-b c = search needs
 
-add-entry-2 : tie.Need-add-entry-2
-add-entry-2 c = search needs
+mul-b : tie.Need-mul-b
+mul-b c = search needs
 
-entry-requires-3 : tie.Need-entry-requires-3
-entry-requires-3 c κs = search needs
+element-copy-out-b : tie.Need-element-copy-out-b
+element-copy-out-b c = search needs
+
+add-c : tie.Need-add-c
+add-c c = search needs
+
+mul-c : tie.Need-mul-c
+mul-c c = search needs
+
+element-copy-out-c : tie.Need-element-copy-out-c
+element-copy-out-c c = search needs
 
 parent-sound-requires : tie.Need-parent-sound-requires
 parent-sound-requires c κs = search needs
@@ -37,14 +46,5 @@ returns c = cc
 pub parents-sound-spec : {M : Type 1} → statement M
 parents-sound-spec =
     tie.close
-    (tie.spec
-    mul-i
-    entry-requires
-    add-entry
-    entry-requires-2
-    add-entry-2
-    entry-requires-3
-    parent-sound-requires
-    parent-sound-requires-2
-    parent-sound-requires-3
-    returns)
+    (tie.spec mul-i mul-a element-copy-out-a add-b mul-b element-copy-out-b add-c mul-c element-copy-out-c parent-sound-requires parent-sound-requires-2
+    parent-sound-requires-3 returns)

@@ -1,4 +1,4 @@
-use Rattle.authority.proofs.Laws.{permits-is}
+use Rattle.authority.proofs.Answers.{permits-is}
 use borrow.Author.Needs.{needs}
 use Rattle.authority.proofs.permits.Statement.{statement}
 use Rattle.authority.proofs.permits.Tie as tie

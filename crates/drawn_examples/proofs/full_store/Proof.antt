@@ -101,35 +101,7 @@ returns c = search needs
 pub full-store-spec : {M : Type 1} → statement M
 full-store-spec =
     tie.close
-    (tie.spec
-    Inv-loop
-    μ-loop
-    slice-aggregate-start
-    slice-aggregate-start-2
-    start-requires
-    loop-holds
-    slice-aggregate-take
-    unplug-requires
-    slice-aggregate-take-2
-    take-requires
-    add-port
-    loop-less
-    loop-again
-    slice-aggregate-write-all
-    write-all-requires
-    print-decimal-requires
-    slice-aggregate-write-all-2
-    write-all-requires-2
-    slice-aggregate-take-3
-    unplug-requires-2
-    slice-aggregate-take-4
-    take-requires-2
-    say-requires
-    slice-aggregate-write-all-3
-    write-all-requires-3
-    slice-aggregate-take-5
-    unplug-requires-3
-    slice-aggregate-take-6
-    take-requires-3
-    say-requires-2
-    returns)
+    (tie.spec Inv-loop μ-loop slice-aggregate-start slice-aggregate-start-2 start-requires loop-holds slice-aggregate-take unplug-requires
+    slice-aggregate-take-2 take-requires add-port loop-less loop-again slice-aggregate-write-all write-all-requires print-decimal-requires
+    slice-aggregate-write-all-2 write-all-requires-2 slice-aggregate-take-3 unplug-requires-2 slice-aggregate-take-4 take-requires-2 say-requires
+    slice-aggregate-write-all-3 write-all-requires-3 slice-aggregate-take-5 unplug-requires-3 slice-aggregate-take-6 take-requires-3 say-requires-2 returns)

@@ -38,14 +38,4 @@ returns c = search needs
 
 pub fill-spec : {M : Type 1} → statement M
 fill-spec =
-    tie.close
-    (tie.spec
-    Inv-loop
-    μ-loop
-    loop-holds
-    slice-write-bytes
-    add-i
-    loop-less
-    loop-again
-    same-length
-    returns)
+    tie.close (tie.spec Inv-loop μ-loop loop-holds slice-write-bytes add-i loop-less loop-again same-length returns)

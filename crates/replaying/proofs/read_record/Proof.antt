@@ -34,7 +34,8 @@ slice-relend-prefix-read-full c = search needs
 
 slice-aggregate-read-full-2 : tie.Need-slice-aggregate-read-full-2
 slice-aggregate-read-full-2 c =
-    sym (length-take-le (c .before .before .number32 .result) (c .before .before .before .before .before .before .before .before .before .before .args .payload .now) (omega arith))
+    let a = c .before .before .before .before .before .before .before .before .before .before .args in
+    sym (length-take-le (c .before .before .number32 .result) (a .payload .now) (omega arith))
 
 read-full-requires-2 : tie.Need-read-full-requires-2
 read-full-requires-2 c κs = search needs
@@ -60,21 +61,6 @@ returns-5 c = search needs
 pub read-record-spec : {M : Type 1} → statement M
 read-record-spec =
     tie.close
-    (tie.spec
-    slice-aggregate-read-full
-    read-full-requires
-    returns
-    returns-2
-    slice-aggregate-number32
-    number32-requires
-    cast-n
-    returns-3
-    slice-relend-prefix-read-full
-    slice-aggregate-read-full-2
-    read-full-requires-2
-    same-length
-    returns-4
-    slice-aggregate-byte
-    byte-requires
-    same-length-2
+    (tie.spec slice-aggregate-read-full read-full-requires returns returns-2 slice-aggregate-number32 number32-requires cast-n returns-3
+    slice-relend-prefix-read-full slice-aggregate-read-full-2 read-full-requires-2 same-length returns-4 slice-aggregate-byte byte-requires same-length-2
     returns-5)

@@ -42,15 +42,5 @@ returns-3 c = search needs
 pub report-spec : {M : Type 1} → statement M
 report-spec =
     tie.close
-    (tie.spec
-    bad-script-requires
-    returns
-    number32-requires
-    cast-n
-    bad-script-requires-2
-    returns-2
-    slice-relend-prefix-report-to
-    slice-aggregate-report-to
-    report-to-requires
-    same-length
-    returns-3)
+    (tie.spec bad-script-requires returns number32-requires cast-n bad-script-requires-2 returns-2 slice-relend-prefix-report-to slice-aggregate-report-to
+    report-to-requires same-length returns-3)

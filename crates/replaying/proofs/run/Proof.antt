@@ -6,7 +6,8 @@ use Rattle.replaying.proofs.run.Statement.{statement}
 use Rattle.replaying.proofs.run.Tie as tie
 
 abbrev Inv-loop : tie.InvT-loop
-Inv-loop payload₀ area₀ out₀ state₀ turns₀ payload area out state turns = (length payload ≡ length payload₀) × (length area ≡ length area₀) × (length out ≡ length out₀)
+Inv-loop payload₀ area₀ out₀ state₀ turns₀ payload area out state turns =
+    (length payload ≡ length payload₀) × (length area ≡ length area₀) × (length out ≡ length out₀)
 
 abbrev μ-loop : tie.MeasureT-loop
 μ-loop payload₀ area₀ out₀ state₀ turns₀ payload area out state turns = turns
@@ -65,22 +66,5 @@ returns-2 c = search needs
 pub run-spec : {M : Type 1} → statement M
 run-spec =
     tie.close
-    (tie.spec
-    Inv-loop
-    μ-loop
-    first-state-requires
-    loop-holds
-    turn-requires
-    enum-known-after
-    enum-told
-    same-length
-    same-length-2
-    same-length-3
-    returns
-    sub-turns
-    loop-less
-    loop-again
-    same-length-4
-    same-length-5
-    same-length-6
-    returns-2)
+    (tie.spec Inv-loop μ-loop first-state-requires loop-holds turn-requires enum-known-after enum-told same-length same-length-2 same-length-3 returns
+    sub-turns loop-less loop-again same-length-4 same-length-5 same-length-6 returns-2)

@@ -33,14 +33,4 @@ returns c = search needs
 
 pub write-hex-spec : {M : Type 1} → statement M
 write-hex-spec =
-    tie.close
-    (tie.spec
-    Inv-loop
-    μ-loop
-    loop-holds
-    shared-slice-read-write-octet
-    write-octet-requires
-    add-i
-    loop-less
-    loop-again
-    returns)
+    tie.close (tie.spec Inv-loop μ-loop loop-holds shared-slice-read-write-octet write-octet-requires add-i loop-less loop-again returns)

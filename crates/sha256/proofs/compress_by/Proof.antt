@@ -28,14 +28,9 @@ returns c =
     let load = first .before .before in
     let s = load .before .before .before .args .s in
     c .add-states .ensures
-    ∙ ap (addStates s) (last .last-rounds .ensures _ _ (first .first-rounds .ensures) ∙ ap (λ (m : List ℕ). rounds 64 (extended 48 m) s) (load .load-words .ensures .1))
+    ∙ ap (addStates s) (last .last-rounds .ensures _ _ (first .first-rounds .ensures)
+    ∙ ap (λ (m : List ℕ). rounds 64 (extended 48 m) s) (load .load-words .ensures .1))
 
 pub compress-by-spec : {M : Type 1} → statement M
 compress-by-spec =
-    tie.close
-    (tie.spec
-    load-words-requires
-    first-rounds-requires
-    last-rounds-requires
-    add-states-requires
-    returns)
+    tie.close (tie.spec load-words-requires first-rounds-requires last-rounds-requires add-states-requires returns)

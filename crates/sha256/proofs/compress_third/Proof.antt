@@ -34,11 +34,4 @@ returns-2 c = search needs
 
 pub compress-third-spec : {M : Type 1} → statement M
 compress-third-spec =
-    tie.close
-    (tie.spec
-    all-zero-requires
-    summed-rounds-requires
-    add-states-requires
-    returns
-    compress-by-requires
-    returns-2)
+    tie.close (tie.spec all-zero-requires summed-rounds-requires add-states-requires returns compress-by-requires returns-2)

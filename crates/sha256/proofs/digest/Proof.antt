@@ -37,13 +37,4 @@ returns c =
 
 pub digest-spec : {M : Type 1} → statement M
 digest-spec =
-    tie.close
-    (tie.spec
-    mul-at
-    hash-blocks-requires
-    sub-hash-rest
-    part-hash-rest-start
-    part-hash-rest-end
-    hash-rest-requires
-    to-bytes-requires
-    returns)
+    tie.close (tie.spec mul-at hash-blocks-requires sub-hash-rest part-hash-rest-start part-hash-rest-end hash-rest-requires to-bytes-requires returns)

@@ -75,20 +75,6 @@ returns c w q z e =
 pub eight-rounds-spec : {M : Type 1} → statement M
 eight-rounds-spec =
     tie.close
-    (tie.spec
-    summed-round-requires
-    add-summed-round
-    summed-round-requires-2
-    add-summed-round-2
-    summed-round-requires-3
-    add-summed-round-3
-    summed-round-requires-4
-    add-summed-round-4
-    summed-round-requires-5
-    add-summed-round-5
-    summed-round-requires-6
-    add-summed-round-6
-    summed-round-requires-7
-    add-summed-round-7
-    summed-round-requires-8
-    returns)
+    (tie.spec summed-round-requires add-summed-round summed-round-requires-2 add-summed-round-2 summed-round-requires-3 add-summed-round-3
+    summed-round-requires-4 add-summed-round-4 summed-round-requires-5 add-summed-round-5 summed-round-requires-6 add-summed-round-6
+    summed-round-requires-7 add-summed-round-7 summed-round-requires-8 returns)

@@ -42,13 +42,4 @@ returns c =
 
 pub first-rounds-spec : {M : Type 1} → statement M
 first-rounds-spec =
-    tie.close
-    (tie.spec
-    Inv-loop
-    μ-loop
-    loop-holds
-    sixteen-rounds-requires
-    add-t
-    loop-less
-    loop-again
-    returns)
+    tie.close (tie.spec Inv-loop μ-loop loop-holds sixteen-rounds-requires add-t loop-less loop-again returns)

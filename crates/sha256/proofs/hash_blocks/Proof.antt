@@ -62,18 +62,5 @@ returns c =
 pub hash-blocks-spec : {M : Type 1} → statement M
 hash-blocks-spec =
     tie.close
-    (tie.spec
-    Inv-loop
-    μ-loop
-    initial-requires
-    loop-holds
-    mul-at
-    add-compress
-    sub-compress
-    part-compress-start
-    part-compress-end
-    compress-requires
-    add-i
-    loop-less
-    loop-again
-    returns)
+    (tie.spec Inv-loop μ-loop initial-requires loop-holds mul-at add-compress sub-compress part-compress-start part-compress-end compress-requires add-i
+    loop-less loop-again returns)

@@ -64,25 +64,12 @@ returns c =
     let c0 = c1 .before .before in
     let start = c0 .before .before in
     event (start .args .event .now) (schedule (padded [] 1536)) (start .pre .0) (c0 .initial .ensures) (c1 .compress-by .ensures) (c2 .compress-by2 .ensures)
-    (c3 .compress-third .ensures) (c4 .summed-rounds .ensures _ (unfold K sums words nextWord extended wordBytes lengthBytes padded in refl)) (c .add-states .ensures) refl refl
+    (c3 .compress-third .ensures)
+    (c4 .summed-rounds .ensures _ (unfold K sums words nextWord extended wordBytes lengthBytes padded in refl)) (c .add-states .ensures) refl refl
 
 pub hash-event-spec : {M : Type 1} → statement M
 hash-event-spec =
     tie.close
-    (tie.spec
-    initial-requires
-    sub-compress-by
-    part-compress-by-start
-    part-compress-by-end
-    compress-by-requires
-    sub-compress-by-2
-    part-compress-by-start-2
-    part-compress-by-end-2
-    compress-by-requires-2
-    sub-compress-third
-    part-compress-third-start
-    part-compress-third-end
-    compress-third-requires
-    summed-rounds-requires
-    add-states-requires
-    returns)
+    (tie.spec initial-requires sub-compress-by part-compress-by-start part-compress-by-end compress-by-requires sub-compress-by-2 part-compress-by-start-2
+    part-compress-by-end-2 compress-by-requires-2 sub-compress-third part-compress-third-start part-compress-third-end compress-third-requires
+    summed-rounds-requires add-states-requires returns)

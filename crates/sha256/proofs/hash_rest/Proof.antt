@@ -122,33 +122,8 @@ returns-2 c =
 pub hash-rest-spec : {M : Type 1} → statement M
 hash-rest-spec =
     tie.close
-    (tie.spec
-    slice-aggregate-copy
-    copy-requires
-    array-write-tail
-    slice-aggregate-store-word
-    cast-store-word
-    store-word-requires
-    slice-aggregate-store-word-2
-    cast-store-word-2
-    store-word-requires-2
-    sub-compress
-    part-compress-start
-    part-compress-end
-    compress-requires
-    slice-aggregate-store-word-3
-    cast-store-word-3
-    store-word-requires-3
-    slice-aggregate-store-word-4
-    cast-store-word-4
-    store-word-requires-4
-    sub-compress-2
-    part-compress-start-2
-    part-compress-end-2
-    compress-requires-2
-    sub-compress-3
-    part-compress-start-3
-    part-compress-end-3
-    compress-requires-3
-    returns
-    returns-2)
+    (tie.spec slice-aggregate-copy copy-requires array-write-tail slice-aggregate-store-word cast-store-word store-word-requires
+    slice-aggregate-store-word-2 cast-store-word-2 store-word-requires-2 sub-compress part-compress-start part-compress-end compress-requires
+    slice-aggregate-store-word-3 cast-store-word-3 store-word-requires-3 slice-aggregate-store-word-4 cast-store-word-4 store-word-requires-4
+    sub-compress-2 part-compress-start-2 part-compress-end-2 compress-requires-2 sub-compress-3 part-compress-start-3 part-compress-end-3
+    compress-requires-3 returns returns-2)

@@ -27,12 +27,4 @@ returns c = cc
 
 pub last-round-spec : {M : Type 1} → statement M
 last-round-spec =
-    tie.close
-    (tie.spec
-    add-round
-    mul-round
-    element-copy-out-round
-    mul-round-2
-    element-copy-out-round-2
-    round-requires
-    returns)
+    tie.close (tie.spec add-round mul-round element-copy-out-round mul-round-2 element-copy-out-round-2 round-requires returns)

@@ -48,10 +48,14 @@ last-round-requires-14 : tie.Need-last-round-requires-14
 last-round-requires-14 c κs = (omega arith, c .before .before .before .before .before .before .before .before .before .before .before .before .before .pre)
 
 last-round-requires-15 : tie.Need-last-round-requires-15
-last-round-requires-15 c κs = (omega arith, c .before .before .before .before .before .before .before .before .before .before .before .before .before .before .pre)
+last-round-requires-15 c κs =
+    let b = c .before .before .before .before .before .before .before .before in
+    (omega arith, b .before .before .before .before .before .before .pre)
 
 last-round-requires-16 : tie.Need-last-round-requires-16
-last-round-requires-16 c κs = (omega arith, c .before .before .before .before .before .before .before .before .before .before .before .before .before .before .before .pre)
+last-round-requires-16 c κs =
+    let b = c .before .before .before .before .before .before .before .before in
+    (omega arith, b .before .before .before .before .before .before .before .pre)
 
 returns : tie.Need-returns
 returns c x z rolling =
@@ -92,21 +96,6 @@ returns c x z rolling =
 pub last-rounds-spec : {M : Type 1} → statement M
 last-rounds-spec =
     tie.close
-    (tie.spec
-    last-round-requires
-    last-round-requires-2
-    last-round-requires-3
-    last-round-requires-4
-    last-round-requires-5
-    last-round-requires-6
-    last-round-requires-7
-    last-round-requires-8
-    last-round-requires-9
-    last-round-requires-10
-    last-round-requires-11
-    last-round-requires-12
-    last-round-requires-13
-    last-round-requires-14
-    last-round-requires-15
-    last-round-requires-16
-    returns)
+    (tie.spec last-round-requires last-round-requires-2 last-round-requires-3 last-round-requires-4 last-round-requires-5 last-round-requires-6
+    last-round-requires-7 last-round-requires-8 last-round-requires-9 last-round-requires-10 last-round-requires-11 last-round-requires-12
+    last-round-requires-13 last-round-requires-14 last-round-requires-15 last-round-requires-16 returns)

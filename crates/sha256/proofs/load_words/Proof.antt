@@ -53,15 +53,4 @@ returns c =
 
 pub load-words-spec : {M : Type 1} → statement M
 load-words-spec =
-    tie.close
-    (tie.spec
-    Inv-loop
-    μ-loop
-    loop-holds
-    load-word-requires
-    mul-w
-    element-write-w
-    add-i
-    loop-less
-    loop-again
-    returns)
+    tie.close (tie.spec Inv-loop μ-loop loop-holds load-word-requires mul-w element-write-w add-i loop-less loop-again returns)

@@ -45,16 +45,5 @@ returns c = cc
 pub round-spec : {M : Type 1} → statement M
 round-spec =
     tie.close
-    (tie.spec
-    big-sigma1-requires
-    wrapping-add-u32-requires
-    ch-requires
-    wrapping-add-u32-requires-2
-    wrapping-add-u32-requires-3
-    wrapping-add-u32-requires-4
-    big-sigma0-requires
-    maj-requires
-    wrapping-add-u32-requires-5
-    wrapping-add-u32-requires-6
-    wrapping-add-u32-requires-7
-    returns)
+    (tie.spec big-sigma1-requires wrapping-add-u32-requires ch-requires wrapping-add-u32-requires-2 wrapping-add-u32-requires-3 wrapping-add-u32-requires-4
+    big-sigma0-requires maj-requires wrapping-add-u32-requires-5 wrapping-add-u32-requires-6 wrapping-add-u32-requires-7 returns)

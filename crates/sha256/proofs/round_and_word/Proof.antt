@@ -77,23 +77,6 @@ returns c x z grown before =
 pub round-and-word-spec : {M : Type 1} → statement M
 round-and-word-spec =
     tie.close
-    (tie.spec
-    mul-x
-    element-copy-out-x
-    add-schedule-sum
-    mul-schedule-sum
-    element-copy-out-schedule-sum
-    add-schedule-sum-2
-    mul-schedule-sum-2
-    element-copy-out-schedule-sum-2
-    add-schedule-sum-3
-    mul-schedule-sum-3
-    element-copy-out-schedule-sum-3
-    schedule-sum-requires
-    mul-w
-    element-write-w
-    add-round
-    mul-round
-    element-copy-out-round
-    round-requires
-    returns)
+    (tie.spec mul-x element-copy-out-x add-schedule-sum mul-schedule-sum element-copy-out-schedule-sum add-schedule-sum-2 mul-schedule-sum-2
+    element-copy-out-schedule-sum-2 add-schedule-sum-3 mul-schedule-sum-3 element-copy-out-schedule-sum-3 schedule-sum-requires mul-w element-write-w
+    add-round mul-round element-copy-out-round round-requires returns)

@@ -24,11 +24,4 @@ returns c = cc
 
 pub schedule-sum-spec : {M : Type 1} → statement M
 schedule-sum-spec =
-    tie.close
-    (tie.spec
-    small-sigma1-requires
-    wrapping-add-u32-requires
-    small-sigma0-requires
-    wrapping-add-u32-requires-2
-    wrapping-add-u32-requires-3
-    returns)
+    tie.close (tie.spec small-sigma1-requires wrapping-add-u32-requires small-sigma0-requires wrapping-add-u32-requires-2 wrapping-add-u32-requires-3 returns)

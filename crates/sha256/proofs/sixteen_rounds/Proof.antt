@@ -23,37 +23,77 @@ round-and-word-requires-5 : tie.Need-round-and-word-requires-5
 round-and-word-requires-5 c κs = let p = c .before .before .before .before .before .before .before .before .before .pre in (p .0, p .1, omega arith, p .2)
 
 round-and-word-requires-6 : tie.Need-round-and-word-requires-6
-round-and-word-requires-6 c κs = let p = c .before .before .before .before .before .before .before .before .before .before .before .pre in (p .0, p .1, omega arith, p .2)
+round-and-word-requires-6 c κs =
+    let a = c .before .before .before .before .before .before .before .before .before .before in
+    let p = a .before .pre in
+    (p .0, p .1, omega arith, p .2)
 
 round-and-word-requires-7 : tie.Need-round-and-word-requires-7
-round-and-word-requires-7 c κs = let p = c .before .before .before .before .before .before .before .before .before .before .before .before .before .pre in (p .0, p .1, omega arith, p .2)
+round-and-word-requires-7 c κs =
+    let a = c .before .before .before .before .before .before .before .before .before .before in
+    let p = a .before .before .before .pre in
+    (p .0, p .1, omega arith, p .2)
 
 round-and-word-requires-8 : tie.Need-round-and-word-requires-8
-round-and-word-requires-8 c κs = let p = c .before .before .before .before .before .before .before .before .before .before .before .before .before .before .before .pre in (p .0, p .1, omega arith, p .2)
+round-and-word-requires-8 c κs =
+    let a = c .before .before .before .before .before .before .before .before .before .before in
+    let p = a .before .before .before .before .before .pre in
+    (p .0, p .1, omega arith, p .2)
 
 round-and-word-requires-9 : tie.Need-round-and-word-requires-9
-round-and-word-requires-9 c κs = let p = c .before .before .before .before .before .before .before .before .before .before .before .before .before .before .before .before .before .pre in (p .0, p .1, omega arith, p .2)
+round-and-word-requires-9 c κs =
+    let a = c .before .before .before .before .before .before .before .before .before .before in
+    let p = a .before .before .before .before .before .before .before .pre in
+    (p .0, p .1, omega arith, p .2)
 
 round-and-word-requires-10 : tie.Need-round-and-word-requires-10
-round-and-word-requires-10 c κs = let p = c .before .before .before .before .before .before .before .before .before .before .before .before .before .before .before .before .before .before .before .pre in (p .0, p .1, omega arith, p .2)
+round-and-word-requires-10 c κs =
+    let a = c .before .before .before .before .before .before .before .before .before .before in
+    let p = a .before .before .before .before .before .before .before .before .before .pre in
+    (p .0, p .1, omega arith, p .2)
 
 round-and-word-requires-11 : tie.Need-round-and-word-requires-11
-round-and-word-requires-11 c κs = let p = c .before .before .before .before .before .before .before .before .before .before .before .before .before .before .before .before .before .before .before .before .before .pre in (p .0, p .1, omega arith, p .2)
+round-and-word-requires-11 c κs =
+    let a = c .before .before .before .before .before .before .before .before .before .before in
+    let b = a .before .before .before .before .before .before .before .before .before .before in
+    let p = b .before .pre in
+    (p .0, p .1, omega arith, p .2)
 
 round-and-word-requires-12 : tie.Need-round-and-word-requires-12
-round-and-word-requires-12 c κs = let p = c .before .before .before .before .before .before .before .before .before .before .before .before .before .before .before .before .before .before .before .before .before .before .before .pre in (p .0, p .1, omega arith, p .2)
+round-and-word-requires-12 c κs =
+    let a = c .before .before .before .before .before .before .before .before .before .before in
+    let b = a .before .before .before .before .before .before .before .before .before .before in
+    let p = b .before .before .before .pre in
+    (p .0, p .1, omega arith, p .2)
 
 round-and-word-requires-13 : tie.Need-round-and-word-requires-13
-round-and-word-requires-13 c κs = let p = c .before .before .before .before .before .before .before .before .before .before .before .before .before .before .before .before .before .before .before .before .before .before .before .before .before .pre in (p .0, p .1, omega arith, p .2)
+round-and-word-requires-13 c κs =
+    let a = c .before .before .before .before .before .before .before .before .before .before in
+    let b = a .before .before .before .before .before .before .before .before .before .before in
+    let p = b .before .before .before .before .before .pre in
+    (p .0, p .1, omega arith, p .2)
 
 round-and-word-requires-14 : tie.Need-round-and-word-requires-14
-round-and-word-requires-14 c κs = let p = c .before .before .before .before .before .before .before .before .before .before .before .before .before .before .before .before .before .before .before .before .before .before .before .before .before .before .before .pre in (p .0, p .1, omega arith, p .2)
+round-and-word-requires-14 c κs =
+    let a = c .before .before .before .before .before .before .before .before .before .before in
+    let b = a .before .before .before .before .before .before .before .before .before .before in
+    let p = b .before .before .before .before .before .before .before .pre in
+    (p .0, p .1, omega arith, p .2)
 
 round-and-word-requires-15 : tie.Need-round-and-word-requires-15
-round-and-word-requires-15 c κs = let p = c .before .before .before .before .before .before .before .before .before .before .before .before .before .before .before .before .before .before .before .before .before .before .before .before .before .before .before .before .before .pre in (p .0, p .1, omega arith, p .2)
+round-and-word-requires-15 c κs =
+    let a = c .before .before .before .before .before .before .before .before .before .before in
+    let b = a .before .before .before .before .before .before .before .before .before .before in
+    let p = b .before .before .before .before .before .before .before .before .before .pre in
+    (p .0, p .1, omega arith, p .2)
 
 round-and-word-requires-16 : tie.Need-round-and-word-requires-16
-round-and-word-requires-16 c κs = let p = c .before .before .before .before .before .before .before .before .before .before .before .before .before .before .before .before .before .before .before .before .before .before .before .before .before .before .before .before .before .before .before .pre in (p .0, p .1, omega arith, p .2)
+round-and-word-requires-16 c κs =
+    let a = c .before .before .before .before .before .before .before .before .before .before in
+    let b = a .before .before .before .before .before .before .before .before .before .before in
+    let d = b .before .before .before .before .before .before .before .before .before .before in
+    let p = d .before .pre in
+    (p .0, p .1, omega arith, p .2)
 
 returns : tie.Need-returns
 returns c x z grown before =
@@ -93,21 +133,7 @@ returns c x z grown before =
 pub sixteen-rounds-spec : {M : Type 1} → statement M
 sixteen-rounds-spec =
     tie.close
-    (tie.spec
-    round-and-word-requires
-    round-and-word-requires-2
-    round-and-word-requires-3
-    round-and-word-requires-4
-    round-and-word-requires-5
-    round-and-word-requires-6
-    round-and-word-requires-7
-    round-and-word-requires-8
-    round-and-word-requires-9
-    round-and-word-requires-10
-    round-and-word-requires-11
-    round-and-word-requires-12
-    round-and-word-requires-13
-    round-and-word-requires-14
-    round-and-word-requires-15
-    round-and-word-requires-16
-    returns)
+    (tie.spec round-and-word-requires round-and-word-requires-2 round-and-word-requires-3 round-and-word-requires-4 round-and-word-requires-5
+    round-and-word-requires-6 round-and-word-requires-7 round-and-word-requires-8 round-and-word-requires-9 round-and-word-requires-10
+    round-and-word-requires-11 round-and-word-requires-12 round-and-word-requires-13 round-and-word-requires-14 round-and-word-requires-15
+    round-and-word-requires-16 returns)

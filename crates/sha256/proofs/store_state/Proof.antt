@@ -63,14 +63,5 @@ returns c =
 pub store-state-spec : {M : Type 1} → statement M
 store-state-spec =
     tie.close
-    (tie.spec
-    store-word-requires
-    store-word-requires-2
-    store-word-requires-3
-    store-word-requires-4
-    store-word-requires-5
-    store-word-requires-6
-    store-word-requires-7
-    store-word-requires-8
-    same-length
-    returns)
+    (tie.spec store-word-requires store-word-requires-2 store-word-requires-3 store-word-requires-4 store-word-requires-5 store-word-requires-6
+    store-word-requires-7 store-word-requires-8 same-length returns)

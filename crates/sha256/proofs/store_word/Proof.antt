@@ -51,17 +51,5 @@ returns c = four-bytes (c .args .out .now) (c .args .at) _ _ _ _ (c .pre)
 pub store-word-spec : {M : Type 1} → statement M
 store-word-spec =
     tie.close
-    (tie.spec
-    cast-out
-    slice-write-out
-    cast-out-2
-    add-out
-    slice-write-out-2
-    cast-out-3
-    add-out-2
-    slice-write-out-3
-    cast-out-4
-    add-out-3
-    slice-write-out-4
-    same-length
-    returns)
+    (tie.spec cast-out slice-write-out cast-out-2 add-out slice-write-out-2 cast-out-3 add-out-2 slice-write-out-3 cast-out-4 add-out-3 slice-write-out-4
+    same-length returns)

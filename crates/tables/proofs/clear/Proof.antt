@@ -1,20 +1,20 @@
-use Prim.Native.Nat.{ℕ, _-_, _<_, _≤_}
+use mathlib.Core.Path.{refl}
+use Prim.Native.Nat.{_-_}
 use native.Mathlib.Omega.{arith}
-use mathlib.Core.Path.{_≡_, refl}
-use lib.ListN.{length, getD, length-set}
-use Rattle.tables.specs.Filling.{table-more, zeros-all}
+use lib.ListN.{length}
+use Rattle.tables.specs.Filling.{zeros-all, Filling, filling-none, filling-more, filling-all}
 use borrow.Author.Needs.{needs}
 use Rattle.tables.proofs.clear.Statement.{statement}
 use Rattle.tables.proofs.clear.Tie as tie
 
 abbrev Inv-loop : tie.InvT-loop
-Inv-loop table₀ i₀ table i = (length table ≡ length table₀) × (i ≤ length table) × ((k : ℕ) → k < i → getD table k 0 ≡ 0)
+Inv-loop table₀ i₀ table i = Filling (λ k. 0) (length table₀) table i
 
 abbrev μ-loop : tie.MeasureT-loop
 μ-loop table₀ i₀ table i = length table₀ - i
 
 loop-holds : tie.Need-loop-holds Inv-loop μ-loop
-loop-holds c = search needs
+loop-holds c = filling-none _ _
 
 mul-table : tie.Need-mul-table Inv-loop μ-loop
 mul-table c = search needs
@@ -29,28 +29,14 @@ loop-less : tie.Need-loop-less Inv-loop μ-loop
 loop-less c = search needs
 
 loop-again : tie.Need-loop-again Inv-loop μ-loop
-loop-again c =
-    let l = c .before in
-    let n = length-set (l .loop .table) (l .loop .i) 0 in
-    (omega arith, omega arith, table-more (λ k. 0) (l .loop .table) (l .loop .i) 0 (omega arith) (l .loop .inv .2) refl)
+loop-again c = filling-more _ _ _ _ (c .before .loop .inv) _ (omega arith) refl
 
 same-length : tie.Need-same-length Inv-loop μ-loop
-same-length c = search needs
+same-length c = c .before .loop .inv .size
 
 returns : tie.Need-returns Inv-loop μ-loop
-returns c = let l = c .before in zeros-all (l .loop .table) (λ k h. l .loop .inv .2 k (omega arith))
+returns c = let l = c .before .loop in zeros-all (l .table) (λ k h. filling-all _ _ _ _ (l .inv) (omega arith) .entry k (omega (arith, l .inv .size)))
 
 pub clear-spec : {M : Type 1} → statement M
 clear-spec =
-    tie.close
-    (tie.spec
-    Inv-loop
-    μ-loop
-    loop-holds
-    mul-table
-    slice-write-table
-    add-i
-    loop-less
-    loop-again
-    same-length
-    returns)
+    tie.close (tie.spec Inv-loop μ-loop loop-holds mul-table slice-write-table add-i loop-less loop-again same-length returns)

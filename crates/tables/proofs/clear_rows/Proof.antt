@@ -1,6 +1,6 @@
 use native.Mathlib.Omega.{arith}
 use Rattle.tables.specs.Filling.{zeros-all}
-use Rattle.tables.proofs.Laws.{rows-empty}
+use Rattle.tables.proofs.RowBits.{rows-empty}
 use borrow.Author.Needs.{needs}
 use Rattle.tables.proofs.clear_rows.Statement.{statement}
 use Rattle.tables.proofs.clear_rows.Tie as tie

@@ -1,5 +1,5 @@
 use native.Mathlib.Omega.{arith}
-use Rattle.tables.proofs.Laws.{rows-full}
+use Rattle.tables.proofs.RowBits.{rows-full}
 use borrow.Author.Needs.{needs}
 use Rattle.tables.proofs.fill_rows.Statement.{statement}
 use Rattle.tables.proofs.fill_rows.Tie as tie

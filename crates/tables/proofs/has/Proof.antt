@@ -1,7 +1,7 @@
 use native.Mathlib.Omega.{arith}
 use mathlib.Core.Path.{sym}
 use Rattle.tables.specs.Bits.{bit-high}
-use Rattle.tables.proofs.Laws.{bit-outside, bit-inside}
+use Rattle.tables.proofs.RowBits.{bit-outside, bit-inside}
 use borrow.Author.Needs.{needs}
 use Rattle.tables.proofs.has.Statement.{statement}
 use Rattle.tables.proofs.has.Tie as tie
@@ -35,14 +35,4 @@ returns-3 c = let a = c .before .before .before .args in sym (bit-inside (a .row
 
 pub has-spec : {M : Type 1} → statement M
 has-spec =
-    tie.close
-    (tie.spec
-    returns
-    mul-i
-    add-i
-    returns-2
-    mul-result
-    shared-slice-read-result
-    cast-result
-    shr-result
-    returns-3)
+    tie.close (tie.spec returns mul-i add-i returns-2 mul-result shared-slice-read-result cast-result shr-result returns-3)

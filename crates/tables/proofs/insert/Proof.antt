@@ -1,4 +1,4 @@
-use Rattle.tables.proofs.Laws.{bit-inserted}
+use Rattle.tables.proofs.RowBits.{bit-inserted}
 use borrow.Author.Needs.{needs}
 use Rattle.tables.proofs.insert.Statement.{statement}
 use Rattle.tables.proofs.insert.Tie as tie
@@ -35,15 +35,4 @@ returns c = let a = c .before .args in bit-inserted (a .rows .now) (a .k) (a .j)
 
 pub insert-spec : {M : Type 1} → statement M
 insert-spec =
-    tie.close
-    (tie.spec
-    mul-i
-    add-i
-    mul-rows
-    slice-read-rows
-    cast-rows
-    shl-rows
-    mul-rows-2
-    slice-write-rows
-    same-length
-    returns)
+    tie.close (tie.spec mul-i add-i mul-rows slice-read-rows cast-rows shl-rows mul-rows-2 slice-write-rows same-length returns)

@@ -1,4 +1,4 @@
-use Rattle.tables.proofs.Laws.{copied}
+use Rattle.tables.proofs.RowBits.{copied}
 use borrow.Author.Needs.{needs}
 use Rattle.tables.proofs.row.Statement.{statement}
 use Rattle.tables.proofs.row.Tie as tie
@@ -45,17 +45,5 @@ returns c = let a = c .before .before .before .before .args in copied (a .rows .
 pub row-spec : {M : Type 1} → statement M
 row-spec =
     tie.close
-    (tie.spec
-    mul-i
-    mul-t4
-    shared-slice-read-t6
-    add-t7
-    mul-t8
-    shared-slice-read-t10
-    add-t11
-    mul-t12
-    shared-slice-read-t14
-    add-t15
-    mul-t16
-    shared-slice-read-t18
-    returns)
+    (tie.spec mul-i mul-t4 shared-slice-read-t6 add-t7 mul-t8 shared-slice-read-t10 add-t11 mul-t12 shared-slice-read-t14 add-t15 mul-t16
+    shared-slice-read-t18 returns)

@@ -1,6 +1,6 @@
 use native.Mathlib.Omega.{arith}
 use lib.ListN.{length-set}
-use Rattle.tables.proofs.Laws.{row-set}
+use Rattle.tables.proofs.RowBits.{row-set}
 use borrow.Author.Needs.{needs}
 use Rattle.tables.proofs.set_row.Statement.{statement}
 use Rattle.tables.proofs.set_row.Tie as tie
@@ -62,22 +62,5 @@ returns c = row-set (c .args .rows .now) (c .args .t3) (c .args .k) (c .pre)
 pub set-row-spec : {M : Type 1} → statement M
 set-row-spec =
     tie.close
-    (tie.spec
-    mul-i
-    array-read-rows
-    mul-rows
-    slice-write-rows
-    array-read-rows-2
-    add-rows
-    mul-rows-2
-    slice-write-rows-2
-    array-read-rows-3
-    add-rows-2
-    mul-rows-3
-    slice-write-rows-3
-    array-read-rows-4
-    add-rows-3
-    mul-rows-4
-    slice-write-rows-4
-    same-length
-    returns)
+    (tie.spec mul-i array-read-rows mul-rows slice-write-rows array-read-rows-2 add-rows mul-rows-2 slice-write-rows-2 array-read-rows-3 add-rows-2
+    mul-rows-3 slice-write-rows-3 array-read-rows-4 add-rows-3 mul-rows-4 slice-write-rows-4 same-length returns)

@@ -34,12 +34,4 @@ returns-2 c = rw (c .enum-told .given .1)
 
 pub tally-answer-spec : {M : Type 1} → statement M
 tally-answer-spec =
-    tie.close
-    (tie.spec
-    enum-known-answer
-    raise-by-requires
-    raise-by-requires-2
-    raise-by-requires-3
-    enum-told
-    returns
-    returns-2)
+    tie.close (tie.spec enum-known-answer raise-by-requires raise-by-requires-2 raise-by-requires-3 enum-told returns returns-2)

@@ -1,5 +1,5 @@
 use mathlib.Core.Path.{refl, sym, ap, _∙_}
-use Rattle.takes.specs.FirstEvent.{answerOfFirst}
+use Rattle.bundles.specs.FirstEvent.{answerOfFirst}
 use borrow.Author.Needs.{needs}
 use Rattle.unit_c.proofs.pelchunda_first_event.Statement.{statement}
 use Rattle.unit_c.proofs.pelchunda_first_event.Tie as tie
@@ -28,11 +28,4 @@ returns-2 c =
 
 pub pelchunda-first-event-spec : {M : Type 1} → statement M
 pelchunda-first-event-spec =
-    tie.close
-    (tie.spec
-    find-first-requires
-    enum-known-at
-    enum-known-refusal
-    number-requires
-    returns
-    returns-2)
+    tie.close (tie.spec find-first-requires enum-known-at enum-known-refusal number-requires returns returns-2)

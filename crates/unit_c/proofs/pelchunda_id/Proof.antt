@@ -1,7 +1,7 @@
 use mathlib.Core.Path.{refl}
 use borrow.Author.Tests.{eq-eqb, ne-eqb, lt-leb}
 use Rattle.unit_c.specs.Numbers.{idOf}
-use Rattle.unit_c.proofs.Laws.{id-written}
+use Rattle.unit_c.proofs.IdsWritten.{id-written}
 use borrow.Author.Needs.{needs}
 use Rattle.unit_c.proofs.pelchunda_id.Statement.{statement}
 use Rattle.unit_c.proofs.pelchunda_id.Tie as tie
@@ -29,16 +29,10 @@ same-length c = search needs
 returns-3 : tie.Need-returns-3
 returns-3 c =
     let a = c .before .before .before .before .before .before .before .before .before .before .args in
-    id-written (a .event .now) (a .id .now) _ _ (c .before .before .before .before .before .before .before .if1 .left) (c .before .before .before .before .before .before .if2 .left) (search needs) (c .before .before .before .before .before .event-id .ensures) (c .before .before .paste .ensures)
+    let d = c .before .before .before .before .before in
+    id-written (a .event .now) (a .id .now) _ _ (d .before .before .if1 .left) (d .before .if2 .left) (search needs)
+    (d .event-id .ensures) (c .before .before .paste .ensures)
 
 pub pelchunda-id-spec : {M : Type 1} → statement M
 pelchunda-id-spec =
-    tie.close
-    (tie.spec
-    returns
-    returns-2
-    event-id-requires
-    slice-aggregate-paste
-    paste-requires
-    same-length
-    returns-3)
+    tie.close (tie.spec returns returns-2 event-id-requires slice-aggregate-paste paste-requires same-length returns-3)

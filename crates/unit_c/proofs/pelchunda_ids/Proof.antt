@@ -6,7 +6,7 @@ use lib.ListN.{length}
 use borrow.Author.Tests.{leb-true, lt-leb, not-true, not-false}
 use Rattle.lists.specs.Cases.{and→}
 use Rattle.unit_c.specs.Numbers.{idsOf}
-use Rattle.unit_c.proofs.Laws.{ids-written}
+use Rattle.unit_c.proofs.IdsWritten.{ids-written}
 use borrow.Author.Needs.{needs}
 use Rattle.unit_c.proofs.pelchunda_ids.Statement.{statement}
 use Rattle.unit_c.proofs.pelchunda_ids.Tie as tie
@@ -29,8 +29,8 @@ returns-2 c =
     let events = length (c .before .before .before .before .args .events .now) in
     rw (not-false (eqb events (events / 192 * 192) && leb (events / 192) 256) (c .before .if1 .left), lt-leb _ _ (c .if2 .taken)) (refl, refl)
 
-event-ids-requires : tie.Need-event-ids-requires
-event-ids-requires c κs =
+find-ids-requires : tie.Need-find-ids-requires
+find-ids-requires c κs =
     let events = length (c .before .before .before .before .before .args .events .now) in
     let whole = not-false (eqb events (events / 192 * 192) && leb (events / 192) 256) (c .before .before .if1 .left) in
     let few = leb-true (events / 192) 256 (and→ (eqb events (events / 192 * 192)) (leb (events / 192) 256) whole .1) in
@@ -44,9 +44,9 @@ returns-3 c =
     let a = c .before .before .before .before .before .before .before .before .args in
     let events = length (a .events .now) in
     let whole = not-false (eqb events (events / 192 * 192) && leb (events / 192) 256) (c .before .before .before .before .before .if1 .left) in
-    let made = c .before .before .event-ids .ensures in
+    let made = c .before .before .find-ids .ensures in
     ids-written (a .events .now) (a .ids .now) _ whole (c .before .before .before .before .if2 .left) (made .0) (made .1)
 
 pub pelchunda-ids-spec : {M : Type 1} → statement M
 pelchunda-ids-spec =
-    tie.close (tie.spec mul-if1 returns mul-if2 returns-2 event-ids-requires same-length returns-3)
+    tie.close (tie.spec mul-if1 returns mul-if2 returns-2 find-ids-requires same-length returns-3)

@@ -36,13 +36,4 @@ returns-2 c =
 
 pub pelchunda-map-spec : {M : Type 1} → statement M
 pelchunda-map-spec =
-    tie.close
-    (tie.spec
-    map-requires
-    enum-known-figures
-    enum-known-refusal
-    number-requires
-    same-length
-    returns
-    same-length-2
-    returns-2)
+    tie.close (tie.spec map-requires enum-known-figures enum-known-refusal number-requires same-length returns same-length-2 returns-2)

@@ -50,15 +50,4 @@ returns-3 c =
 pub pelchunda-start-spec : {M : Type 1} → statement M
 pelchunda-start-spec =
     tie.close
-    (tie.spec
-    start-requires
-    enum-told
-    enum-told-2
-    enum-known-answer
-    number-requires
-    same-length
-    returns
-    same-length-2
-    returns-2
-    same-length-3
-    returns-3)
+    (tie.spec start-requires enum-told enum-told-2 enum-known-answer number-requires same-length returns same-length-2 returns-2 same-length-3 returns-3)

@@ -25,11 +25,4 @@ returns c =
 
 pub pelchunda-take-bundle-counted-spec : {M : Type 1} → statement M
 pelchunda-take-bundle-counted-spec =
-    tie.close
-    (tie.spec
-    to-tally-requires
-    bundle-with-requires
-    to-figures-requires
-    show-figures-requires
-    same-length
-    returns)
+    tie.close (tie.spec to-tally-requires bundle-with-requires to-figures-requires show-figures-requires same-length returns)

@@ -25,11 +25,4 @@ returns c =
 
 pub pelchunda-take-counted-spec : {M : Type 1} → statement M
 pelchunda-take-counted-spec =
-    tie.close
-    (tie.spec
-    to-tally-requires
-    take-with-requires
-    to-figures-requires
-    show-placed-requires
-    same-length
-    returns)
+    tie.close (tie.spec to-tally-requires take-with-requires to-figures-requires show-placed-requires same-length returns)

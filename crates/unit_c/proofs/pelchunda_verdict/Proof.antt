@@ -28,11 +28,4 @@ returns-2 c =
 
 pub pelchunda-verdict-spec : {M : Type 1} → statement M
 pelchunda-verdict-spec =
-    tie.close
-    (tie.spec
-    verdict-requires
-    enum-known-found
-    enum-known-refusal
-    number-requires
-    returns
-    returns-2)
+    tie.close (tie.spec verdict-requires enum-known-found enum-known-refusal number-requires returns returns-2)

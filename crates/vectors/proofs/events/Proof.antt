@@ -37,14 +37,4 @@ returns c = search needs
 
 pub events-spec : {M : Type 1} → statement M
 events-spec =
-    tie.close
-    (tie.spec
-    Inv-loop
-    μ-loop
-    loop-holds
-    event-byte-requires
-    array-write-bytes
-    add-i
-    loop-less
-    loop-again
-    returns)
+    tie.close (tie.spec Inv-loop μ-loop loop-holds event-byte-requires array-write-bytes add-i loop-less loop-again returns)

@@ -36,14 +36,4 @@ returns c = search needs
 
 pub lengths-spec : {M : Type 1} → statement M
 lengths-spec =
-    tie.close
-    (tie.spec
-    Inv-loop
-    μ-loop
-    loop-holds
-    slice-aggregate-digest
-    digest-requires
-    add-n
-    loop-less
-    loop-again
-    returns)
+    tie.close (tie.spec Inv-loop μ-loop loop-holds slice-aggregate-digest digest-requires add-n loop-less loop-again returns)

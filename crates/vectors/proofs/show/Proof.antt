@@ -55,19 +55,5 @@ returns c = search needs
 pub show-spec : {M : Type 1} → statement M
 show-spec =
     tie.close
-    (tie.spec
-    Inv-loop
-    μ-loop
-    print-decimal-requires
-    slice-aggregate-write-all
-    write-all-requires
-    loop-holds
-    byte-requires
-    cast-print-hex
-    print-hex-requires
-    add-i
-    loop-less
-    loop-again
-    slice-aggregate-write-all-2
-    write-all-requires-2
-    returns)
+    (tie.spec Inv-loop μ-loop print-decimal-requires slice-aggregate-write-all write-all-requires loop-holds byte-requires cast-print-hex
+    print-hex-requires add-i loop-less loop-again slice-aggregate-write-all-2 write-all-requires-2 returns)

@@ -12,11 +12,11 @@ Inv-loop events n ids i₀ t5 i =
 abbrev μ-loop : tie.MeasureT-loop
 μ-loop events n ids i₀ t5 i = n + 1 - i
 
-slice-aggregate-event-ids : tie.Need-slice-aggregate-event-ids Inv-loop μ-loop
-slice-aggregate-event-ids c = search needs
+slice-aggregate-find-ids : tie.Need-slice-aggregate-find-ids Inv-loop μ-loop
+slice-aggregate-find-ids c = search needs
 
-event-ids-requires : tie.Need-event-ids-requires Inv-loop μ-loop
-event-ids-requires c κs = search needs
+find-ids-requires : tie.Need-find-ids-requires Inv-loop μ-loop
+find-ids-requires c κs = search needs
 
 loop-holds : tie.Need-loop-holds Inv-loop μ-loop
 loop-holds c = search needs
@@ -54,19 +54,5 @@ returns c = search needs
 pub table-spec : {M : Type 1} → statement M
 table-spec =
     tie.close
-    (tie.spec
-    Inv-loop
-    μ-loop
-    slice-aggregate-event-ids
-    event-ids-requires
-    loop-holds
-    slice-aggregate-write-all
-    write-all-requires
-    slice-aggregate-part
-    mul-part
-    part-requires
-    show-requires
-    add-i
-    loop-less
-    loop-again
-    returns)
+    (tie.spec Inv-loop μ-loop slice-aggregate-find-ids find-ids-requires loop-holds slice-aggregate-write-all write-all-requires slice-aggregate-part
+    mul-part part-requires show-requires add-i loop-less loop-again returns)

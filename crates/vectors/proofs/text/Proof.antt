@@ -42,16 +42,4 @@ returns c = search needs
 
 pub text-spec : {M : Type 1} → statement M
 text-spec =
-    tie.close
-    (tie.spec
-    Inv-loop
-    μ-loop
-    loop-holds
-    mul-bytes
-    add-bytes
-    cast-bytes
-    array-write-bytes
-    add-i
-    loop-less
-    loop-again
-    returns)
+    tie.close (tie.spec Inv-loop μ-loop loop-holds mul-bytes add-bytes cast-bytes array-write-bytes add-i loop-less loop-again returns)

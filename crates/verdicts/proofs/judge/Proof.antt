@@ -1,19 +1,28 @@
-use Prim.Native.Nat.{ℕ}
 use native.Mathlib.Omega.{arith}
-use mathlib.Core.Path.{sym, ap, _∙_, subst}
-use mathlib.Core.List.{List, List·Memᴰ}
-use lib.Seq.{length-take-le}
-use Rattle.history.specs.Order.{ranked}
-use Rattle.verdicts.proofs.JudgeLaws.{rank-low, count-low, front, fits, judged}
+use mathlib.Core.Path.{refl}
+use Rattle.ordering.specs.OrderLaws.{rank-few}
+use Rattle.verdicts.proofs.Steps.{behind-parents, places-apart, few-places, rank-low, fits, judged}
 use borrow.Author.Needs.{needs}
 use Rattle.verdicts.proofs.judge.Statement.{statement}
 use Rattle.verdicts.proofs.judge.Tie as tie
 
-slice-aggregate-ranks : tie.Need-slice-aggregate-ranks
-slice-aggregate-ranks c = search needs
+slice-aggregate-ancestors : tie.Need-slice-aggregate-ancestors
+slice-aggregate-ancestors c = search needs
 
-ranks-requires : tie.Need-ranks-requires
-ranks-requires c κs = search needs
+ancestors-requires : tie.Need-ancestors-requires
+ancestors-requires c κs = (refl, behind-parents (c .before .before .before .before .pre))
+
+find-named-ancestors-requires : tie.Need-find-named-ancestors-requires
+find-named-ancestors-requires c κs = behind-parents (c .before .before .before .before .before .before .before .before .before .pre) .low
+
+authorize-requires : tie.Need-authorize-requires
+authorize-requires c κs = behind-parents (c .before .before .before .before .before .before .before .before .before .before .before .before .before .pre)
+
+slice-aggregate-find-ranks : tie.Need-slice-aggregate-find-ranks
+slice-aggregate-find-ranks c = search needs
+
+find-ranks-requires : tie.Need-find-ranks-requires
+find-ranks-requires c κs = search needs
 
 slice-aggregate-by-rank : tie.Need-slice-aggregate-by-rank
 slice-aggregate-by-rank c = search needs
@@ -23,76 +32,74 @@ slice-aggregate-by-rank-2 c = search needs
 
 by-rank-requires : tie.Need-by-rank-requires
 by-rank-requires c κs =
-    let r = c .before .before .before .ranks in
-    let b = c .before .before .before .before .before .before .before .before .before .before .before .before in
-    (b .pre .0 .apart, b .pre .0 .few-places, rank-low _ _ _ _ _ _ (b .pre .0) (r .ensures) (r .kept .1 .1 .1 .0))
+    let sounds = c .before .before .before .before .before .before .before in
+    let named = sounds .before .before .before .before in
+    let rows = named .before .before .before .before .before in
+    let start = rows .before .before .before .before .before in (
+      places-apart (start .pre),
+      few-places (start .pre),
+      rank-low (start .pre) (rows .ancestors .ensures) (named .find-named-ancestors .ensures)
+          (sounds .authorize .ensures) (c .before .before .before .find-ranks .kept .1 .1 .1 .0) (c .before .before .before .find-ranks .ensures),
+    )
 
-array-share-prefix-list : tie.Need-array-share-prefix-list
-array-share-prefix-list c =
-    let k = c .before .by-rank in
-    let l = c .before .before in
-    let r = l .before .before .before .ranks in
-    let b = l .before .before .before .before .before .before .before .before .before .before .before .before in
-    let low = count-low _ _ _ _ _ _ (b .pre .0) (r .ensures) (r .kept .1 .1 .1 .0) (k .last .1 .1 .0) (k .result) (k .ensures .0) in
-    omega (arith, low, b .pre .0 .few-places, k .kept .1 .1 .0)
+front-requires : tie.Need-front-requires
+front-requires c κs = search needs
 
-slice-aggregate-effects : tie.Need-slice-aggregate-effects
-slice-aggregate-effects c =
-    let k = c .before .before .by-rank in
-    let l = c .before .before .before in
-    let r = l .before .before .before .ranks in
-    let b = l .before .before .before .before .before .before .before .before .before .before .before .before in
-    let low = count-low _ _ _ _ _ _ (b .pre .0) (r .ensures) (r .kept .1 .1 .1 .0) (k .last .1 .1 .0) (k .result) (k .ensures .0) in
-    sym (length-take-le (k .result) (k .last .1 .1 .0) (omega (arith, low, b .pre .0 .few-places, k .kept .1 .1 .0)))
+find-effects-requires : tie.Need-find-effects-requires
+find-effects-requires c κs =
+    let ranked = c .before .before .before .before .before .before .before in
+    let ranks = ranked .before .before .before .before in
+    let sounds = ranks .before .before .before .before in
+    let named = sounds .before .before .before .before in
+    let rows = named .before .before .before .before .before in
+    let start = rows .before .before .before .before .before in
+    fits (start .pre) (rows .ancestors .ensures) (named .find-named-ancestors .ensures) (sounds .authorize .ensures) (ranks .find-ranks .kept .1 .1 .1 .0)
+    (ranks .find-ranks .ensures) (ranked .by-rank .last .1 .1 .0) _ (ranked .by-rank .result) (ranked .by-rank .ensures .0) (ranked .by-rank .ensures .1)
+    (c .before .front .ensures)
 
-slice-aggregate-effects-2 : tie.Need-slice-aggregate-effects-2
-slice-aggregate-effects-2 c = search needs
+find-verdicts-requires : tie.Need-find-verdicts-requires
+find-verdicts-requires c κs = search needs
 
-effects-requires : tie.Need-effects-requires
-effects-requires c κs =
-    let k = c .before .before .before .by-rank in
-    let l = c .before .before .before .before in
-    let r = l .before .before .before .ranks in
-    let b = l .before .before .before .before .before .before .before .before .before .before .before .before in
-    let e = front _ _ _ _ _ _ (b .pre .0) (r .ensures) (r .kept .1 .1 .1 .0) (k .last .1 .1 .0) (k .result) (k .ensures .0) (k .ensures .1) in
-    (omega arith, b .pre .1, λ x m. fits _ _ _ _ _ _ (b .pre .0) (r .ensures) x (subst (List·Memᴰ x) e m))
-
-slice-aggregate-verdicts : tie.Need-slice-aggregate-verdicts
-slice-aggregate-verdicts c = search needs
-
-verdicts-requires : tie.Need-verdicts-requires
-verdicts-requires c κs = search needs
-
-same-length : tie.Need-same-length
-same-length c = search needs
+put-rank-requires : tie.Need-put-rank-requires
+put-rank-requires c κs =
+    let ranked = c .before .before .before .before .before .before .before .before .before .before .before .before .before .before .before in
+    let sounds = ranked .before .before .before .before .before .before .before .before in
+    let start = sounds .before .before .before .before .before .before .before .before .before .before .before .before .before .before in
+    omega (
+      arith,
+      rank-few (c .before .before .before .find-verdicts .last .1 .1 .1 .0) (start .args .order .now) 3
+          (few-places (start .pre)),
+      c .put-rank-arg3 .given .0 .1,
+    )
 
 returns : tie.Need-returns
 returns c =
-    let v = c .before .before .verdicts in
-    let x = c .before .before .before .before .before .before .effects in
-    let k = c .before .before .before .before .before .before .before .before .before .before .by-rank in
-    let l = c .before .before .before .before .before .before .before .before .before .before .before in
-    let r = l .before .before .before .ranks in
-    let b = l .before .before .before .before .before .before .before .before .before .before .before .before in
-    let e = front _ _ _ _ _ _ (b .pre .0) (r .ensures) (r .kept .1 .1 .1 .0) (k .last .1 .1 .0) (k .result) (k .ensures .0) (k .ensures .1) in
-    λ store ids index above t places.
-    judged store ids _ index above _ _ _ _ _ (r .last .1 .1 .1 .0) _ _ _ t (r .ensures)
-    (e ∙ ap (λ (p : List ℕ). ranked (r .last .1 .1 .1 .0) p 256) places) (x .ensures) (v .ensures)
+    let verdicts = c .before .before .before .before in
+    let effects = verdicts .before .before .before .before in
+    let ranked = effects .before .before .before .before .before .before .before .before in
+    let ranks = ranked .before .before .before .before in
+    let sounds = ranks .before .before .before .before in
+    let named = sounds .before .before .before .before in
+    let rows = named .before .before .before .before .before in
+    let start = rows .before .before .before .before .before in
+    record {
+      judged = judged (start .pre) (rows .ancestors .ensures) (named .find-named-ancestors .ensures) (sounds .authorize .ensures)
+          (ranks .find-ranks .kept .1 .1 .1 .0) (ranks .find-ranks .ensures) (ranked .by-rank .last .1 .1 .0) _ (ranked .by-rank .result)
+          (ranked .by-rank .ensures .0) (ranked .by-rank .ensures .1) (effects .before .before .front .ensures)
+          (verdicts .before .find-verdicts-arg .given .0 .1) (effects .find-effects .ensures) (verdicts .find-verdicts .ensures);
+      long = omega (arith, verdicts .find-verdicts .kept, verdicts .before .find-verdicts-arg .given .0 .1);
+      few = omega (
+        arith,
+        c .put-rank .ensures .0,
+        rank-few (verdicts .find-verdicts .last .1 .1 .1 .0) (start .args .order .now) 3
+            (few-places (start .pre)),
+      );
+      runs = c .put-rank .ensures .1;
+    }
 
 pub judge-spec : {M : Type 1} → statement M
 judge-spec =
     tie.close
-    (tie.spec
-    slice-aggregate-ranks
-    ranks-requires
-    slice-aggregate-by-rank
-    slice-aggregate-by-rank-2
-    by-rank-requires
-    array-share-prefix-list
-    slice-aggregate-effects
-    slice-aggregate-effects-2
-    effects-requires
-    slice-aggregate-verdicts
-    verdicts-requires
-    same-length
+    (tie.spec slice-aggregate-ancestors ancestors-requires find-named-ancestors-requires authorize-requires slice-aggregate-find-ranks find-ranks-requires
+    slice-aggregate-by-rank slice-aggregate-by-rank-2 by-rank-requires front-requires find-effects-requires find-verdicts-requires put-rank-requires
     returns)

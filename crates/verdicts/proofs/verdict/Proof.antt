@@ -1,6 +1,4 @@
-use native.Mathlib.Omega.{arith}
-use mathlib.Core.Path.{_≡_, sym, _∙_}
-use lib.ListN.{getD}
+use mathlib.Core.Path.{sym, _∙_}
 use borrow.Author.Tests.{eq-eqb, ne-eqb}
 use Rattle.verdicts.specs.Verdicts.{verdictOf}
 use borrow.Author.Needs.{needs}
@@ -12,52 +10,46 @@ entry-requires c κs = search needs
 
 returns : tie.Need-returns
 unfolding verdictOf
-returns c =
-    let a = c .before .before .before .before .before .args in
-    let waits : getD (a .levels .now) (a .k) 0 ≡ 0 = omega (arith, c .before .entry .ensures) in
-    sym (rw (eq-eqb _ _ waits))
+returns c = sym (rw (eq-eqb _ _ (sym (c .before .entry .ensures) ∙ c .if1 .taken)))
 
-byte-requires : tie.Need-byte-requires
-byte-requires c κs = search needs
+entry-requires-2 : tie.Need-entry-requires-2
+entry-requires-2 c κs = search needs
 
 returns-2 : tie.Need-returns-2
 unfolding verdictOf
 returns-2 c =
-    let d = c .before .before in
-    sym
-    (rw (
-      ne-eqb _ _ (λ z. d .if1 .left (d .before .entry .ensures ∙ z)),
-      ne-eqb _ _ (λ z. c .if2 .taken (c .before .byte .ensures ∙ z)),
+    let level = c .before .before .before .before in
+    sym (rw (
+      ne-eqb _ _ (λ z. c .before .before .before .if1 .left (level .entry .ensures ∙ z)),
+      ne-eqb _ _
+          (λ z. c .if2 .taken (c .before .entry2 .ensures ∙ z)),
     ))
 
-byte-requires-2 : tie.Need-byte-requires-2
-byte-requires-2 c κs = search needs
+entry-requires-3 : tie.Need-entry-requires-3
+entry-requires-3 c κs = search needs
 
 returns-3 : tie.Need-returns-3
 unfolding verdictOf
 returns-3 c =
-    let b = c .before .before in
-    let d = b .before .before in
-    sym
-    (rw (
-      ne-eqb _ _ (λ z. d .if1 .left (d .before .entry .ensures ∙ z)),
-      eq-eqb _ _ (sym (b .before .byte .ensures) ∙ b .if2 .left),
-      eq-eqb _ _ (sym (c .before .byte2 .ensures) ∙ c .if3 .taken),
+    let said = c .before .before .before .before in
+    sym (rw (
+      ne-eqb _ _ (λ z. said .before .before .if1 .left (said .before .before .before .entry .ensures ∙ z)),
+      eq-eqb _ _
+          (sym (said .entry2 .ensures) ∙ c .before .before .before .if2 .left),
+      eq-eqb _ _ (sym (c .before .entry3 .ensures) ∙ c .if3 .taken),
     ))
 
 returns-4 : tie.Need-returns-4
 unfolding verdictOf
 returns-4 c =
-    let b = c .before .before in
-    let d = b .before .before in
-    sym
-    (rw (
-      ne-eqb _ _ (λ z. d .if1 .left (d .before .entry .ensures ∙ z)),
-      eq-eqb _ _ (sym (b .before .byte .ensures) ∙ b .if2 .left),
-      ne-eqb _ _ (λ z. c .if3 .left (c .before .byte2 .ensures ∙ z)),
+    let said = c .before .before .before .before in
+    sym (rw (
+      ne-eqb _ _ (λ z. said .before .before .if1 .left (said .before .before .before .entry .ensures ∙ z)),
+      eq-eqb _ _
+          (sym (said .entry2 .ensures) ∙ c .before .before .before .if2 .left),
+      ne-eqb _ _ (λ z. c .if3 .left (c .before .entry3 .ensures ∙ z)),
     ))
 
 pub verdict-spec : {M : Type 1} → statement M
 verdict-spec =
-    tie.close
-    (tie.spec entry-requires returns byte-requires returns-2 byte-requires-2 returns-3 returns-4)
+    tie.close (tie.spec entry-requires returns entry-requires-2 returns-2 entry-requires-3 returns-3 returns-4)

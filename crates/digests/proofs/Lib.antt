@@ -1,7 +1,0 @@
-pub mod Laws
-pub mod Columns
-pub mod Rounds
-pub mod Sweep
-pub mod Midway
-pub mod Compression
-pub mod Events

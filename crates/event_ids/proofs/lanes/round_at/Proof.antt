@@ -1,0 +1,39 @@
+use native.Mathlib.Omega.{arith}
+use Rattle.sha256.specs.Constants.{K}
+use Rattle.event_ids.proofs.Columns.{getD-column}
+use Rattle.event_ids.proofs.Rounds.{constant-at}
+use borrow.Author.Needs.{needs}
+use Rattle.event_ids.proofs.lanes.round_at.Statement.{statement}
+use Rattle.event_ids.proofs.lanes.round_at.Tie as tie
+
+mul-p : tie.Need-mul-p
+mul-p c = search needs
+
+add-p : tie.Need-add-p
+add-p c = search needs
+
+mul-round : tie.Need-mul-round
+mul-round c = search needs
+
+element-copy-out-round : tie.Need-element-copy-out-round
+element-copy-out-round c = search needs
+
+mul-round-2 : tie.Need-mul-round-2
+mul-round-2 c = search needs
+
+element-copy-out-round-2 : tie.Need-element-copy-out-round-2
+element-copy-out-round-2 c = search needs
+
+round-requires : tie.Need-round-requires
+round-requires c κs = search needs
+
+returns : tie.Need-returns
+returns c =
+    let start = c .before .before .before in
+    let a = start .args in
+    let constant = constant-at K (a .k .now) (a .l) (a .t) (start .pre .1) (start .pre .0) (start .pre .2) in
+    rw (getD-column (a .l) 64 (a .t) (a .w .now) (omega arith)) (rw constant at (c .round .ensures))
+
+pub round-at-spec : {M : Type 1} → statement M
+round-at-spec =
+    tie.close (tie.spec mul-p add-p mul-round element-copy-out-round mul-round-2 element-copy-out-round-2 round-requires returns)

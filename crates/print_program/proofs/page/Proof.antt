@@ -1,0 +1,66 @@
+use mathlib.Core.Path.{sym, ap, _∙_}
+use borrow.Author.Tests.{le-leb, lt-leb}
+use Rattle.lists.specs.Bytes.{Bytes}
+use Rattle.cords.specs.Cords.{cordLimit}
+use Rattle.bundles.specs.FirstEvent.{firstOf, firstPart}
+use Rattle.print_program.specs.Page.{startedPage, pageOf}
+use Rattle.print_program.proofs.FirstEvent.{first-refused, first-given}
+use Rattle.model.specs.Output.{overwritten-front}
+use borrow.Author.Needs.{needs}
+use Rattle.print_program.proofs.page.Statement.{statement}
+use Rattle.print_program.proofs.page.Tie as tie
+
+refusal-line-requires : tie.Need-refusal-line-requires
+refusal-line-requires c κs = search needs
+
+same-length : tie.Need-same-length
+same-length c = search needs
+
+returns : tie.Need-returns
+unfolding pageOf
+returns c =
+    let line = c .before .before .refusal-line .ensures in
+    rw (lt-leb _ _ (c .before .before .before .before .if1 .taken)) (overwritten-front _ _ _ _ (line .0) (line .1))
+
+first-event-requires : tie.Need-first-event-requires
+first-event-requires c κs = search needs
+
+refusal-line-requires-2 : tie.Need-refusal-line-requires-2
+refusal-line-requires-2 c κs = search needs
+
+same-length-2 : tie.Need-same-length-2
+same-length-2 c = search needs
+
+returns-2 : tie.Need-returns-2
+unfolding pageOf
+returns-2 c =
+    let file = c .before .before .before .before .before .before .before .before .before .before .before .args .file .now in
+    let line = c .before .before .refusal-line2 .ensures in
+    let b = c .before .before .before .before in
+    let first = first-refused (firstOf file) _ (b .before .first-event .ensures .1 .1) (b .if2 .taken) in
+    rw (le-leb _ _ (c .before .before .before .before .before .before .before .if1 .left), first) (overwritten-front _ _ _ _ (line .0) (line .1))
+
+write-started-requires : tie.Need-write-started-requires
+write-started-requires c κs = search needs
+
+same-length-3 : tie.Need-same-length-3
+same-length-3 c = search needs
+
+same-length-4 : tie.Need-same-length-4
+same-length-4 c = search needs
+
+returns-3 : tie.Need-returns-3
+unfolding pageOf
+returns-3 c =
+    let a = c .before .before .before .before .before .before .before .before .before .before .before .before .before .before .args in
+    let call = c .before .before .before .before .before .before .before .before .first-event .ensures in
+    let first = first-given (a .file .now) (sym (call .1 .1) ∙ c .before .before .before .before .before .before .before .if2 .left) in
+    let lent = call .0 ∙ ap (firstPart (a .file .now)) first in
+    rw (le-leb _ _ (c .before .before .before .before .before .before .before .before .before .before .if1 .left), first)
+    (c .before .before .before .before .write-started .ensures ∙ ap (λ (x : Bytes). startedPage cordLimit (a .file .now) x (a .store .now) (a .out .now)) lent)
+
+pub page-spec : {M : Type 1} → statement M
+page-spec =
+    tie.close
+    (tie.spec refusal-line-requires same-length returns first-event-requires refusal-line-requires-2 same-length-2 returns-2 write-started-requires
+    same-length-3 same-length-4 returns-3)

@@ -1,0 +1,137 @@
+-- The text of the events held, by the tables of an opened store.
+use Prim.Native.Nat.{ℕ, _+_, _*_, _≤_}
+use native.Mathlib.Omega.{arith}
+use mathlib.Core.Path.{_≡_, refl, sym, ap, _∙_}
+use mathlib.Core.Bool.{Bool}
+use mathlib.Core.Option.{none, some}
+use mathlib.Core.List.{List, [], _∷_}
+use lib.Dec.{leb}
+use lib.ListN.{length, take, drop}
+use lib.Seq.{length-take-le, take-at}
+use Rattle.lists.specs.Cases.{byBool}
+use Rattle.lists.specs.Bytes.{Bytes}
+use Rattle.lists.specs.Tests.{keep, keep-split}
+use Rattle.lists.specs.Sorting.{sort-length}
+use Rattle.cords.specs.Cords.{cordLimit}
+use Rattle.event.specs.declared.Refusal.{Refusal}
+use Rattle.event.specs.declared.Body.{Body}
+use Rattle.event.specs.declared.Body.the-variants.{Create as create, Grant as grant, Revoke as revoke, Join as join, Unplug as unplug}
+use Rattle.event.specs.Answers.{refused, numberOf, must, firstFailed}
+use Rattle.model.specs.Events.{Event}
+use Rattle.model.specs.Heights.{View, settled, orderKey, order}
+use Rattle.model.specs.Verdicts.{effective, verdict}
+use Rattle.model.specs.Map.{Link, Machine, atFirst, remove, add, act, run, machine}
+use Rattle.model.specs.MapLaws.{joins-run}
+use Rattle.model.specs.Output.{overwritten}
+use Rattle.model.specs.Store.{heldIn}
+use Rattle.cabling.specs.declared.Ran.{Ran}
+use Rattle.cabling.specs.Ports.{linkIn}
+use Rattle.cabling.specs.Rows.{rowBytes, row-bytes-size, RowsWritten, map-bytes}
+use Rattle.text_format.specs.declared.Printed.{Printed}
+use Rattle.text_format.specs.Text.{roomText, textOf as textOfRows, answerOf, outputOf, answerOfPrinted}
+use Rattle.text_format.specs.RowLaws.{text-of-store}
+use Rattle.openers.specs.declared.LinkAnswer.{LinkAnswer}
+use Rattle.openers.specs.declared.LinkAnswer.the-variants.{Linked, Refused}
+use Rattle.openers.specs.Opened.{heldView, storeTests, numberOfLinked, LinkedTables, LinkedStore}
+use Rattle.reports.specs.AfterStoreTests.{reported, passed-both, store-decides}
+use Rattle.reports.specs.HeldEntries.{held-length, held-entries}
+use Rattle.reports.specs.OpenedBytes.{entry-right}
+use Rattle.text.specs.Text.{textTests, textOf}
+
+-- ── rows ────────────────────────────────────────────────────────────────────────────────────────────────────────────────
+
+act-joins : (m : Machine) (e : Event) (b : Body) → act m e b .joins ≤ m .joins + 1
+unfolding act add remove
+act-joins m e create = omega arith
+act-joins m e (grant g) = omega arith
+act-joins m e revoke = omega arith
+act-joins m e (join c) = omega arith
+act-joins m e (unplug a) = omega arith
+
+run-joins : (m : Machine) (es : List Event) → run m es .joins ≤ m .joins + length es
+unfolding run
+run-joins m [] = omega arith
+run-joins m (e ∷ es) = omega (arith, run-joins (act m e (e .body)) es, act-joins m e (e .body))
+
+joins-few : (v : View) → machine v .joins ≤ length (order v)
+unfolding machine
+joins-few v =
+    let p : Event → Bool = λ e. effective v (e .ident) in
+    omega (arith, run-joins atFirst (keep p (order v)), keep-split p (order v))
+
+order-few : (v : View) → length (order v) ≤ length (v .byId)
+unfolding order
+order-few v =
+    let p : Event → Bool = λ e. settled v (e .ident) in
+    omega (arith, sort-length (orderKey v) (keep p (v .byId)), keep-split p (v .byId))
+
+-- no more links than events
+links-few : (store : Bytes) (n : ℕ) → length (machine (heldView store n) .links) ≤ n
+links-few store n =
+    let v = heldView store n in
+    let sorted = sort-length (λ (e : Event). e .ident) (heldIn store n) in
+    omega (arith, joins-run v, joins-few v, order-few v, sorted, held-length store n)
+
+module _ {store : Bytes} {n : ℕ} {verdicts ports : List ℕ} {w : Ran} (t : LinkedTables store n verdicts ports w) where
+  abbrev links : List Link
+  links = machine (heldView store n) .links
+
+  verdict-each : length (take n verdicts) ≡ n
+  verdict-each = length-take-le n verdicts (omega (arith, t .few, t .long))
+
+  module _ {k : ℕ} {rows₀ rows : Bytes} (wrote : RowsWritten (linkIn store) ports rows₀ rows k) where
+    pub rows-few : k ≤ 256
+    rows-few = omega (arith, wrote .count links (t .shows .links), links-few store n, t .few)
+
+    -- k rows, written to an array of 2,048 bytes, are its front
+    rows-front : length rows₀ ≡ 2048 → take (k * 8) rows ≡ rowBytes (machine (heldView store n) .links)
+    unfolding overwritten
+    rows-front size =
+        let same = wrote .count links (t .shows .links) in
+        ap (take (k * 8)) (wrote .bytes links (t .shows .links) (omega (arith, same, rows-few)))
+        ∙ take-at (rowBytes links) (drop (length (rowBytes links)) rows₀) (k * 8) (omega (arith, row-bytes-size links, same))
+
+-- ── the text ────────────────────────────────────────────────────────────────────────────────────────────────────────────
+
+module _ {store : Bytes} {n : ℕ} {verdicts ports : List ℕ} {r : LinkAnswer} (s : LinkedStore store n verdicts ports r) (out : Bytes) where
+  abbrev text : Bytes
+  text = roomText (heldView store n)
+
+  pub text-refused : (k : Refusal) → r ≡ Refused k
+      → (refused (numberOf k) ≡ textOf cordLimit store n out .answer) × (out ≡ textOf cordLimit store n out .out)
+  unfolding textOf
+  text-refused k e =
+      reported (length text) text out (firstFailed (textTests cordLimit store n out)) (some (numberOf k))
+      (store-decides cordLimit store n (some (numberOf k)) (ap numberOfLinked (sym e) ∙ s .told)
+      (must 10 (leb (length text) (length out)) ∷ []))
+
+  module _ {w : Ran} (told : r ≡ Linked w) where
+    passed : none ≡ firstFailed (storeTests cordLimit store n)
+    passed = ap numberOfLinked (sym told) ∙ s .told
+
+    same : {rows : Bytes} → rows ≡ rowBytes (machine (heldView store n) .links) → textOfRows rows (take n verdicts) ≡ text
+    same {rows} e =
+        text-of-store store n rows (take n verdicts) (passed-both cordLimit store n passed .1) (e ∙ sym (map-bytes (heldView store n)))
+        (held-entries store n (λ x. verdict (heldView store n) (x .ident)) 0 (take n verdicts) (verdict-each (s .left w told))
+        (λ k h. entry-right (s .left w told .judged) refl h))
+
+    -- 10 decides
+    whole : (answerOf text out ≡ textOf cordLimit store n out .answer) × (outputOf text out ≡ textOf cordLimit store n out .out)
+    unfolding answerOf outputOf textOf
+    whole =
+        let both = passed-both cordLimit store n passed in
+        byBool (leb (length text) (length out))
+        (λ t. rw (both .0, both .1, t) (refl, refl))
+        (λ f. rw (both .0, both .1, f) (refl, refl))
+
+    -- p was printed of the k rows written
+    pub text-told : {k : ℕ} {rows₀ rows : Bytes} → RowsWritten (linkIn store) ports rows₀ rows k → length rows₀ ≡ 2048
+        → {p q : Printed} {left : Bytes} → p ≡ q
+        → (answerOfPrinted p ≡ answerOf (textOfRows (take (k * 8) rows) (take n verdicts)) out)
+        × (left ≡ outputOf (textOfRows (take (k * 8) rows) (take n verdicts)) out)
+        → (answerOfPrinted q ≡ textOf cordLimit store n out .answer) × (left ≡ textOf cordLimit store n out .out)
+    text-told wrote size e printed =
+        let here = same (rows-front (s .left w told) wrote size) in (
+          ap answerOfPrinted (sym e) ∙ printed .0 ∙ ap (λ (b : Bytes). answerOf b out) here ∙ whole .0,
+          printed .1 ∙ ap (λ (b : Bytes). outputOf b out) here ∙ whole .1,
+        )
