@@ -14,6 +14,7 @@ use Rattle.event.specs.Contents.{bodyOf}
 use Rattle.model.specs.Events.{grants}
 use Rattle.model.specs.Verdicts.{givenBy}
 use Rattle.tables.specs.Bits.{bitAt}
+use Rattle.ordering.specs.Named.{missing}
 use Rattle.authority.specs.declared.Ancestor.{Ancestor}
 use Rattle.authority.specs.declared.Ancestor.the-variants.{At, Nowhere}
 use Rattle.authority.specs.declared.Presented.{Presented}
@@ -27,10 +28,10 @@ ancestorIn M k p = cond (bitAt M k p) (At p) Nowhere
 abbrev pub ancestorBy : List ℕ → List ℕ → ℕ → ℕ → Ancestor
 ancestorBy P M k j = ancestorIn M k (getD P (k * 5 + j) 0)
 
--- its place; 256, which no event has, for none
+-- its place
 abbrev pub ancestorPlace : Ancestor → ℕ
 ancestorPlace (At p) = p
-ancestorPlace Nowhere = 256
+ancestorPlace Nowhere = missing
 
 -- "a revoke's target is an ancestor of kind grant"
 abbrev pub ifGrant : Bytes → Ancestor → Ancestor
@@ -52,7 +53,7 @@ givenFrom p none = Other p
 
 -- "an ancestor P, a grant or the creator", at place p
 unfoldable pub givenAt : Bytes → ℕ → Presented
-givenAt store p = cond (ltb p 256) (givenFrom p (givenBy (authorOf (eventAt store p)) (bodyOf (eventAt store p)))) Nothing
+givenAt store p = cond (ltb p missing) (givenFrom p (givenBy (authorOf (eventAt store p)) (bodyOf (eventAt store p)))) Nothing
 
 abbrev pub grantIn : Presented → Option Grant
 grantIn (Gives x) = some (x .grant)

@@ -22,7 +22,7 @@ use Rattle.model.specs.AncestryLaws.{descendant-settled, ancestor-height, ances
 use Rattle.model.specs.LineLaws.{line-presents, line-ends}
 use Rattle.model.specs.Store.{eventOf, heldIn}
 use Rattle.store.specs.Tables.{slotIn}
-use Rattle.ordering.specs.Named.{noPlace, placeBy, namedPlace}
+use Rattle.ordering.specs.Named.{missing, noPlace, placeBy, namedPlace}
 use Rattle.ordering.specs.LevelLaws.{heightOf, level-from, bySlot, Levelled, find-gap, entry-at, level-height}
 use Rattle.ordering.specs.Placed.{heldAt, idOf, find-place, same-place, slot-place, settled-level, level-settled, level-low}
 use Rattle.tables.specs.Bits.{bit-high}
@@ -142,7 +142,7 @@ module _ {store : Bytes} {n : ℕ} {ids : Bytes} {index P T M Q G : List ℕ} (t
   -- what a settled place presents is an ancestor, or nothing
   pub byPresented : {A : Type 0} (k : ℕ) → k < n → Settled k
       → ((p : ℕ) → getD Q k 0 ≡ p → AncestorAt store n k (heldAt store k .presented) p → A)
-      → (getD Q k 0 ≡ 256 → ancestor seen (idOf store k) (heldAt store k .presented) ≡ false → A) → A
+      → (getD Q k 0 ≡ missing → ancestor seen (idOf store k) (heldAt store k .presented) ≡ false → A) → A
   unfolding namedPlace namesId namedId eventOf
   byPresented k h s at gone =
       bySearch k 3 (presentedOf (eventAt store k)) h s (entry-at (tables .levelled .loaded) (tables .levelled .reads) k 3 h (omega arith))
@@ -193,7 +193,7 @@ module _ {store : Bytes} {n : ℕ} {ids : Bytes} {index P T M Q G : List ℕ} (t
   -- what a settled revoke names is a grant among its ancestors, or it names none
   pub byTarget : {A : Type 0} (k : ℕ) → k < n → Settled k → isRevoke (heldAt store k) ≡ true
       → ((t : ℕ) → getD G k 0 ≡ t → Named store n k t → A)
-      → (getD G k 0 ≡ 256 → Unnamed store n k → A) → A
+      → (getD G k 0 ≡ missing → Unnamed store n k → A) → A
   unfolding namedPlace namesId namedId eventOf
   byTarget k h s r at gone =
       bySearch k 4 (targetOf (eventAt store k)) h s
@@ -206,7 +206,7 @@ module _ {store : Bytes} {n : ℕ} {ids : Bytes} {index P T M Q G : List ℕ} (t
       (λ e f. gone (tables .names k h s ∙ rw e) (rw f))
 
   -- another kind names none
-  pub no-target : (k : ℕ) → k < n → Settled k → isRevoke (heldAt store k) ≡ false → getD G k 0 ≡ 256
+  pub no-target : (k : ℕ) → k < n → Settled k → isRevoke (heldAt store k) ≡ false → getD G k 0 ≡ missing
   unfolding namedPlace namesId eventOf
   no-target k h s r =
       let none : getD P (k * 5 + 4) 0 ≡ noPlace =

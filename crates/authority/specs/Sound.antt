@@ -15,7 +15,7 @@ use Rattle.event.specs.Fields.{authorOf, eventAt}
 use Rattle.event.specs.Contents.{bodyOf}
 use Rattle.model.specs.Events.{revokes}
 use Rattle.model.specs.Verdicts.{has, rightFor, coversBody}
-use Rattle.ordering.specs.Named.{noPlace}
+use Rattle.ordering.specs.Named.{missing, noPlace}
 use Rattle.authority.specs.Found.{givenAt, grantIn}
 use Rattle.authority.specs.Lines.{lineFrom}
 
@@ -34,7 +34,7 @@ permitsBy author body g = eqb (g .subject) author && has (g .rights) (rightFor b
 -- "a revoke's target is an ancestor of kind grant, and P is on the target's line"; p is the place of P, t that of the target. 256
 -- steps are enough for every line.
 unfoldable pub targetSuitsAt : List ℕ → Body → ℕ → ℕ → Bool
-targetSuitsAt Q body p t = not (revokes body) || (ltb t 256 && anyOf (eqb p) (lineFrom Q 256 t))
+targetSuitsAt Q body p t = not (revokes body) || (ltb t missing && anyOf (eqb p) (lineFrom Q 256 t))
 
 -- the five conditions; the creator, at place 0, is sound
 unfoldable pub soundAt : Bytes → List ℕ → List ℕ → List ℕ → List ℕ → ℕ → Bool

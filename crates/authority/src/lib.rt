@@ -14,6 +14,7 @@ ghost use Rattle.authority.specs.Lines.{lineFrom};
 ghost use Rattle.authority.specs.Sound.{parentSound, parentsSound, permitsBy, targetSuitsAt, soundAt, bit, SoundTable};
 use event::Body;
 use event::Grant;
+use event::NAMED_IDS;
 use event::Parsed;
 use ordering::MISSING;
 use ordering::NONE;
@@ -62,11 +63,11 @@ fn is_revoke(body: Body) -> bool
 }
 
 // Finds the id j that the event at place k names among its ancestors. A row has no bit for what is no place.
-fn find_ancestor(named: &[u16; 1280], rows: &[u64; 1024], k: u16, j: u16) -> Ancestor
+fn find_ancestor(named: &[u16; 1280], rows: &[u64; 1024], k: u16, j: u8) -> Ancestor
     requires { ⌜ (k < 256) × (j < 5) ⌝ }
     ensures { λ r. ⌜ r ≡ ancestorBy (now (named .entry)) (now (rows .entry)) k j ⌝ }
 {
-    let p = named[(k as usize) * 5 + (j as usize)];
+    let p = named[(k as usize) * NAMED_IDS + (j as usize)];
     if tables::has(rows, k, p) {
         Ancestor::At(p)
     } else {
@@ -99,7 +100,7 @@ fn find_target(store: &[u8], named: &[u16; 1280], rows: &[u64; 1024], k: u16) ->
     requires { ⌜ k < 256 ⌝ }
     ensures { λ r. ⌜ r ≡ targetBy (now (store .entry)) (now (named .entry)) (now (rows .entry)) k ⌝ }
 {
-    let Ancestor::At(t) = find_ancestor(named, rows, k, 4) else {
+    let Ancestor::At(t) = find_ancestor(named, rows, k, event::TARGET) else {
         return Ancestor::Nowhere;
     };
     let e = event::read(event::event_at(store, t));
@@ -140,7 +141,7 @@ pub fn find_named_ancestors(
     let mut i = 0;
     while i < order.len() {
         let k = order[i];
-        let p = ancestor_place(find_ancestor(named, rows, k, 3));
+        let p = ancestor_place(find_ancestor(named, rows, k, event::PRESENTED));
         let t = ancestor_place(find_target(store, named, rows, k));
         let at = k as usize;
         presented[at] = p;
@@ -246,7 +247,7 @@ fn target_suits(presented: &[u16; 256], body: Body, p: u16, t: u16) -> bool
     if MISSING <= t {
         return false;
     }
-    on_line(presented, 256, p, t)
+    on_line(presented, store::PLACES, p, t)
 }
 
 // Whether the parent at place p is sound; NONE stands for no parent.
@@ -261,7 +262,7 @@ fn parents_sound(named: &[u16; 1280], sound: &[u16; 256], k: u16) -> bool
     requires { ⌜ k < 256 ⌝ }
     ensures { λ r. ⌜ r ≡ parentsSound (now (named .entry)) (now (sound .entry)) k ⌝ }
 {
-    let i = (k as usize) * 5;
+    let i = (k as usize) * NAMED_IDS;
     let a = named[i];
     let b = named[i + 1];
     let c = named[i + 2];

@@ -1,8 +1,7 @@
 -- The text of the events held, by the tables of an opened store.
-use Prim.Native.Nat.{ℕ, _+_, _*_, _≤_}
+use Prim.Native.Nat.{ℕ, _*_, _≤_}
 use native.Mathlib.Omega.{arith}
 use mathlib.Core.Path.{_≡_, refl, sym, ap, _∙_}
-use mathlib.Core.Bool.{Bool}
 use mathlib.Core.Option.{none, some}
 use mathlib.Core.List.{List, [], _∷_}
 use lib.Dec.{leb}
@@ -10,18 +9,13 @@ use lib.ListN.{length, take, drop}
 use lib.Seq.{length-take-le, take-at}
 use Rattle.lists.specs.Cases.{byBool}
 use Rattle.lists.specs.Bytes.{Bytes}
-use Rattle.lists.specs.Tests.{keep, keep-split}
-use Rattle.lists.specs.Sorting.{sort-length}
 use Rattle.cords.specs.Cords.{cordLimit}
 use Rattle.event.specs.declared.Refusal.{Refusal}
-use Rattle.event.specs.declared.Body.{Body}
-use Rattle.event.specs.declared.Body.the-variants.{Create as create, Grant as grant, Revoke as revoke, Join as join, Unplug as unplug}
 use Rattle.event.specs.Answers.{refused, numberOf, must, firstFailed}
-use Rattle.model.specs.Events.{Event}
-use Rattle.model.specs.Heights.{View, settled, orderKey, order}
-use Rattle.model.specs.Verdicts.{effective, verdict}
-use Rattle.model.specs.Map.{Link, Machine, atFirst, remove, add, act, run, machine}
-use Rattle.model.specs.MapLaws.{joins-run}
+use Rattle.model.specs.Verdicts.{verdict}
+use Rattle.model.specs.Map.{Link, machine}
+use Rattle.model.specs.MapLaws.{links-few}
+use Rattle.model.specs.StoreLaws.{held-length}
 use Rattle.model.specs.Output.{overwritten}
 use Rattle.model.specs.Store.{heldIn}
 use Rattle.cabling.specs.declared.Ran.{Ran}
@@ -34,43 +28,15 @@ use Rattle.openers.specs.declared.LinkAnswer.{LinkAnswer}
 use Rattle.openers.specs.declared.LinkAnswer.the-variants.{Linked, Refused}
 use Rattle.openers.specs.Opened.{heldView, storeTests, numberOfLinked, LinkedTables, LinkedStore}
 use Rattle.reports.specs.AfterStoreTests.{reported, passed-both, store-decides}
-use Rattle.reports.specs.HeldEntries.{held-length, held-entries}
+use Rattle.reports.specs.HeldEntries.{held-entries}
 use Rattle.reports.specs.OpenedBytes.{entry-right}
 use Rattle.text.specs.Text.{textTests, textOf}
 
 -- ── rows ────────────────────────────────────────────────────────────────────────────────────────────────────────────────
 
-act-joins : (m : Machine) (e : Event) (b : Body) → act m e b .joins ≤ m .joins + 1
-unfolding act add remove
-act-joins m e create = omega arith
-act-joins m e (grant g) = omega arith
-act-joins m e revoke = omega arith
-act-joins m e (join c) = omega arith
-act-joins m e (unplug a) = omega arith
-
-run-joins : (m : Machine) (es : List Event) → run m es .joins ≤ m .joins + length es
-unfolding run
-run-joins m [] = omega arith
-run-joins m (e ∷ es) = omega (arith, run-joins (act m e (e .body)) es, act-joins m e (e .body))
-
-joins-few : (v : View) → machine v .joins ≤ length (order v)
-unfolding machine
-joins-few v =
-    let p : Event → Bool = λ e. effective v (e .ident) in
-    omega (arith, run-joins atFirst (keep p (order v)), keep-split p (order v))
-
-order-few : (v : View) → length (order v) ≤ length (v .byId)
-unfolding order
-order-few v =
-    let p : Event → Bool = λ e. settled v (e .ident) in
-    omega (arith, sort-length (orderKey v) (keep p (v .byId)), keep-split p (v .byId))
-
 -- no more links than events
-links-few : (store : Bytes) (n : ℕ) → length (machine (heldView store n) .links) ≤ n
-links-few store n =
-    let v = heldView store n in
-    let sorted = sort-length (λ (e : Event). e .ident) (heldIn store n) in
-    omega (arith, joins-run v, joins-few v, order-few v, sorted, held-length store n)
+held-links-few : (store : Bytes) (n : ℕ) → length (machine (heldView store n) .links) ≤ n
+held-links-few store n = omega (arith, links-few (heldIn store n), held-length store n)
 
 module _ {store : Bytes} {n : ℕ} {verdicts ports : List ℕ} {w : Ran} (t : LinkedTables store n verdicts ports w) where
   abbrev links : List Link
@@ -81,7 +47,7 @@ module _ {store : Bytes} {n : ℕ} {verdicts ports : List ℕ} {w : Ran} (t : Li
 
   module _ {k : ℕ} {rows₀ rows : Bytes} (wrote : RowsWritten (linkIn store) ports rows₀ rows k) where
     pub rows-few : k ≤ 256
-    rows-few = omega (arith, wrote .count links (t .shows .links), links-few store n, t .few)
+    rows-few = omega (arith, wrote .count links (t .shows .links), held-links-few store n, t .few)
 
     -- k rows, written to an array of 2,048 bytes, are its front
     rows-front : length rows₀ ≡ 2048 → take (k * 8) rows ≡ rowBytes (machine (heldView store n) .links)

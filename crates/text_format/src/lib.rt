@@ -1,5 +1,5 @@
 // The text of the printing program, in a lent output: a first line with the numbers of links and verdicts, then a line for each row
-// of the map; or the line of a refusal. Rests on `octets`, `tables` and `model`.
+// of the map; or the line of a refusal. Rests on `octets`, `tables`, `model` and, for the length of a row, `cabling`.
 ghost use mathlib.Core.Path.{_≡_};
 ghost use mathlib.Core.List.{map, flatten};
 ghost use Prim.Native.Nat.{_+_, _*_, _/_, _≤_};
@@ -25,6 +25,7 @@ ghost use Rattle.text_format.specs.Text.{
   answerOfPrinted,
 };
 ghost use Rattle.text_format.specs.Steps.{leadingZeros, headOf};
+use cabling::ROW_BYTES;
 
 // How many bytes the text has, or that the output is too short for it.
 pub enum Printed {
@@ -170,16 +171,19 @@ fn row_line(row: &[u8]) -> [u8; 22]
     ]
 }
 
+// A line for a row.
+const LINE_BYTES: usize = 22;
+
 // Writes the lines of the rows from an offset on.
 fn write_lines(rows: &[u8], out: &mut [u8], at: usize)
     requires { ⌜ at + length (now rows) / 8 * 22 ≤ length (now out) ⌝ }
     ensures { λ _. ⌜ now (out .exit) ≡ pasted (now (out .entry)) at (flatten (map rowLine (rowsIn (now (rows .entry))))) ⌝ }
 {
-    let n = rows.len() / 8;
+    let n = rows.len() / ROW_BYTES;
     let mut i = 0;
     while i < n {
-        let line = row_line(octets::part(rows, i * 8, 8));
-        octets::paste(out, at + i * 22, &line);
+        let line = row_line(octets::part(rows, i * ROW_BYTES, ROW_BYTES));
+        octets::paste(out, at + i * LINE_BYTES, &line);
         i += 1;
     }
 }
@@ -223,10 +227,10 @@ fn write_text(rows: &[u8], verdicts: &[u16], out: &mut [u8]) -> Printed
     ensures { λ r. ⌜ answerOfPrinted r ≡ answerOf (textOf (now (rows .entry)) (now (verdicts .entry))) (now (out .entry)) ⌝ }
     ensures { λ _. ⌜ now (out .exit) ≡ outputOf (textOf (now (rows .entry)) (now (verdicts .entry))) (now (out .entry)) ⌝ }
 {
-    let n = rows.len() / 8;
+    let n = rows.len() / ROW_BYTES;
     let mut head = [0u8; 51];
     let at = write_counts(&mut head, n as u16, verdicts);
-    let size = at + n * 22;
+    let size = at + n * LINE_BYTES;
     if out.len() < size {
         return Printed::Short;
     }
@@ -250,7 +254,7 @@ pub fn write_fronts(
         ≡ outputOf (textOf (take (n * 8) (now (rows .entry))) (take count (now (verdicts .entry)))) (now (out .entry)) ⌝ }
 {
     write_text(
-        octets::part(rows, 0, n * 8),
+        octets::part(rows, 0, n * ROW_BYTES),
         tables::front(verdicts, count),
         out,
     )

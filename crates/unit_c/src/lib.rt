@@ -324,7 +324,7 @@ pub extern "C" fn pelchunda_id(event: &[u8], id: &mut [u8]) -> u8
     if event.len() != event::EVENT_BYTES {
         return 1;
     }
-    if id.len() < 32 {
+    if id.len() < event::ID_BYTES {
         return 10;
     }
     let digest = sha256::event_id(event);
@@ -339,10 +339,10 @@ pub extern "C" fn pelchunda_ids(events: &[u8], ids: &mut [u8]) -> u8
     ensures { λ _. ⌜ now (ids .exit) ≡ idsOf (now (events .entry)) (now (ids .entry)) .out ⌝ }
 {
     let n = events.len() / event::EVENT_BYTES;
-    if !((events.len() == n * event::EVENT_BYTES) & (n <= 256)) {
+    if !((events.len() == n * event::EVENT_BYTES) & (n <= bundles::MOST_EVENTS)) {
         return 1;
     }
-    if ids.len() < n * 32 {
+    if ids.len() < n * event::ID_BYTES {
         return 10;
     }
     event_ids::find_ids(events, n, ids);

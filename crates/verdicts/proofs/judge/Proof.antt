@@ -1,22 +1,18 @@
 use native.Mathlib.Omega.{arith}
-use mathlib.Core.Path.{refl}
 use Rattle.ordering.specs.OrderLaws.{rank-few}
 use Rattle.verdicts.proofs.Steps.{behind-parents, places-apart, few-places, rank-low, fits, judged}
 use borrow.Author.Needs.{needs}
 use Rattle.verdicts.proofs.judge.Statement.{statement}
 use Rattle.verdicts.proofs.judge.Tie as tie
 
-slice-aggregate-ancestors : tie.Need-slice-aggregate-ancestors
-slice-aggregate-ancestors c = search needs
-
 ancestors-requires : tie.Need-ancestors-requires
-ancestors-requires c κs = (refl, behind-parents (c .before .before .before .before .pre))
+ancestors-requires c κs = behind-parents (c .before .before .before .before .pre)
 
 find-named-ancestors-requires : tie.Need-find-named-ancestors-requires
-find-named-ancestors-requires c κs = behind-parents (c .before .before .before .before .before .before .before .before .before .pre) .low
+find-named-ancestors-requires c κs = behind-parents (c .before .before .before .before .before .before .before .before .pre) .low
 
 authorize-requires : tie.Need-authorize-requires
-authorize-requires c κs = behind-parents (c .before .before .before .before .before .before .before .before .before .before .before .before .before .pre)
+authorize-requires c κs = behind-parents (c .before .before .before .before .before .before .before .before .before .before .before .before .pre)
 
 slice-aggregate-find-ranks : tie.Need-slice-aggregate-find-ranks
 slice-aggregate-find-ranks c = search needs
@@ -34,7 +30,7 @@ by-rank-requires : tie.Need-by-rank-requires
 by-rank-requires c κs =
     let sounds = c .before .before .before .before .before .before .before in
     let named = sounds .before .before .before .before in
-    let rows = named .before .before .before .before .before in
+    let rows = named .before .before .before .before in
     let start = rows .before .before .before .before .before in (
       places-apart (start .pre),
       few-places (start .pre),
@@ -51,7 +47,7 @@ find-effects-requires c κs =
     let ranks = ranked .before .before .before .before in
     let sounds = ranks .before .before .before .before in
     let named = sounds .before .before .before .before in
-    let rows = named .before .before .before .before .before in
+    let rows = named .before .before .before .before in
     let start = rows .before .before .before .before .before in
     fits (start .pre) (rows .ancestors .ensures) (named .find-named-ancestors .ensures) (sounds .authorize .ensures) (ranks .find-ranks .kept .1 .1 .1 .0)
     (ranks .find-ranks .ensures) (ranked .by-rank .last .1 .1 .0) _ (ranked .by-rank .result) (ranked .by-rank .ensures .0) (ranked .by-rank .ensures .1)
@@ -64,7 +60,7 @@ put-rank-requires : tie.Need-put-rank-requires
 put-rank-requires c κs =
     let ranked = c .before .before .before .before .before .before .before .before .before .before .before .before .before .before .before in
     let sounds = ranked .before .before .before .before .before .before .before .before in
-    let start = sounds .before .before .before .before .before .before .before .before .before .before .before .before .before .before in
+    let start = sounds .before .before .before .before .before .before .before .before .before .before .before .before .before in
     omega (
       arith,
       rank-few (c .before .before .before .find-verdicts .last .1 .1 .1 .0) (start .args .order .now) 3
@@ -80,7 +76,7 @@ returns c =
     let ranks = ranked .before .before .before .before in
     let sounds = ranks .before .before .before .before in
     let named = sounds .before .before .before .before in
-    let rows = named .before .before .before .before .before in
+    let rows = named .before .before .before .before in
     let start = rows .before .before .before .before .before in
     record {
       judged = judged (start .pre) (rows .ancestors .ensures) (named .find-named-ancestors .ensures) (sounds .authorize .ensures)
@@ -100,6 +96,6 @@ returns c =
 pub judge-spec : {M : Type 1} → statement M
 judge-spec =
     tie.close
-    (tie.spec slice-aggregate-ancestors ancestors-requires find-named-ancestors-requires authorize-requires slice-aggregate-find-ranks find-ranks-requires
+    (tie.spec ancestors-requires find-named-ancestors-requires authorize-requires slice-aggregate-find-ranks find-ranks-requires
     slice-aggregate-by-rank slice-aggregate-by-rank-2 by-rank-requires front-requires find-effects-requires find-verdicts-requires put-rank-requires
     returns)
