@@ -115,7 +115,7 @@ uint8_t pelchunda_start(uint8_t *store, size_t store_len,
  * returns  0 to 7; a refusal leaves the store, the count and repeat as they
  *          were
  * empty    store or event: 1
- * stack    14,208 bytes
+ * stack    13,952 bytes
  */
 uint8_t pelchunda_take(uint8_t *store, size_t store_len, size_t *count,
                        const uint8_t *event, size_t event_len,
@@ -129,7 +129,7 @@ uint8_t pelchunda_take(uint8_t *store, size_t store_len, size_t *count,
  *          the other two
  * returns  as pelchunda_take
  * empty    as pelchunda_take; the tally's refused is raised
- * stack    14,208 bytes
+ * stack    13,952 bytes
  */
 uint8_t pelchunda_take_counted(uint8_t *store, size_t store_len, size_t *count,
                                const uint8_t *event, size_t event_len,
@@ -146,7 +146,7 @@ uint8_t pelchunda_take_counted(uint8_t *store, size_t store_len, size_t *count,
  * returns  0, 1, 2 or 8; a refusal leaves the store, the count and the figures
  *          as they were
  * empty    store: 1; bundle: 8, where the store is good
- * stack    22,528 bytes
+ * stack    22,272 bytes
  */
 uint8_t pelchunda_take_bundle(uint8_t *store, size_t store_len, size_t *count,
                               const uint8_t *bundle, size_t bundle_len,
@@ -159,7 +159,7 @@ uint8_t pelchunda_take_bundle(uint8_t *store, size_t store_len, size_t *count,
  *          4,294,967,295. A refused bundle leaves it as it was
  * returns  as pelchunda_take_bundle
  * empty    as pelchunda_take_bundle
- * stack    22,656 bytes
+ * stack    22,272 bytes
  */
 uint8_t pelchunda_take_bundle_counted(uint8_t *store, size_t store_len, size_t *count,
                                       const uint8_t *bundle, size_t bundle_len,
@@ -172,7 +172,7 @@ uint8_t pelchunda_take_bundle_counted(uint8_t *store, size_t store_len, size_t *
  * place    the event's place: its 192 bytes start at store + 192 * place
  * returns  0, 1, 2 or 9; a refusal leaves place as it was
  * empty    store or id: 1
- * stack    13,440 bytes
+ * stack    12,672 bytes
  */
 uint8_t pelchunda_look_up(const uint8_t *store, size_t store_len, size_t count,
                           const uint8_t *id, size_t id_len,
@@ -232,7 +232,7 @@ uint8_t pelchunda_map(const uint8_t *store, size_t store_len, size_t count,
  * bytes    the length of the bundle
  * returns  0, 1, 2, 10 or 11; a refusal leaves out and bytes as they were
  * empty    store: 1; out: 10, where the store is good
- * stack    18,304 bytes
+ * stack    18,048 bytes
  */
 uint8_t pelchunda_write_out(const uint8_t *store, size_t store_len, size_t count,
                             uint8_t *out, size_t out_len,

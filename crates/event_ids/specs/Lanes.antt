@@ -81,3 +81,9 @@ OtherSchedules l w w′ = EachLane (λ k. ((k ≡ l → ⊥) → scheduleAt k w�
 
 abbrev pub OtherStates : ℕ → List ℕ → List ℕ → Type 0
 OtherStates l x x′ = EachLane (λ k. ((k ≡ l → ⊥) → stateAt k x′ ≡ stateAt k x))
+
+-- lane l went one step: its schedule has the word t + 16, and the round t leads from the state s to r
+pub record Stepped (l t : ℕ) (w w′ : List ℕ) (s r : State) : Type 0 where
+  pub word : scheduleAt l w′ ≡ withWord t (scheduleAt l w)
+  pub others : OtherSchedules l w w′
+  pub round : r ≡ oneRound (getD K t 0) (getD (scheduleAt l w) t 0) s

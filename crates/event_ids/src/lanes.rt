@@ -9,9 +9,9 @@ ghost use Rattle.sha256.specs.Constants.{K};
 ghost use Rattle.sha256.specs.Sha256.{padded, messageBlock, wordAt, words, H0, schedule, extended, oneRound, rounds};
 ghost use Rattle.sha256.specs.Sha256.{addStates, compress, digestBytes, sha256};
 ghost use Rattle.sha256.specs.Sums.{sums, EachSchedule};
-ghost use Rattle.event_ids.specs.Lanes.{scheduleAt, blockAt, stateAt, laneAt, withWord, steps, roundsFrom};
+ghost use Rattle.event_ids.specs.Lanes.{scheduleAt, blockAt, stateAt, laneAt, steps, roundsFrom};
 ghost use Rattle.event_ids.specs.Lanes.{constantBlock, FourTimes};
-ghost use Rattle.event_ids.specs.Lanes.{EachLane, OtherSchedules, OtherStates};
+ghost use Rattle.event_ids.specs.Lanes.{EachLane, OtherSchedules, OtherStates, Stepped};
 use sha256::State;
 use sha256::constants::PADDING_SUMS;
 use sha256::constants::ROUND_CONSTANTS;
@@ -66,9 +66,7 @@ fn put_state(st: &mut [u32; 32], l: usize, s: State)
 fn round_and_word(s: State, w: &mut [u32; 256], k: &[u32; 256], t: usize, l: usize) -> State
     requires { ⌜ (t < 48) × (l < 4) × (length (now w) ≡ 256) × (FourTimes K (now k)) ⌝ }
     ensures { λ _. ⌜ length (now (w .exit)) ≡ 256 ⌝ }
-    ensures { λ _. ⌜ scheduleAt l (now (w .exit)) ≡ withWord t (scheduleAt l (now (w .entry))) ⌝ }
-    ensures { λ _. ⌜ OtherSchedules l (now (w .entry)) (now (w .exit)) ⌝ }
-    ensures { λ r. ⌜ r ≡ oneRound (getD K t 0) (getD (scheduleAt l (now (w .entry))) t 0) s ⌝ }
+    ensures { λ r. ⌜ Stepped l t (now (w .entry)) (now (w .exit)) s r ⌝ }
 {
     let p = l + t * 4;
     let x = w[p];

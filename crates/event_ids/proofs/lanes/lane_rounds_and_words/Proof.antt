@@ -36,19 +36,20 @@ put-state-requires c κs =
 
 returns : tie.Need-returns
 returns c =
-    let r₄ = c .before .before .round-and-word4 .ensures in
-    let r₃ = c .before .before .before .before .round-and-word3 .ensures in
-    let r₂ = c .before .before .before .before .before .before .round-and-word2 .ensures in
-    let r₁ = c .before .before .before .before .before .before .before .before .round-and-word .ensures in
+    let size = c .before .before .round-and-word4 .ensures .0 in
+    let r₄ = c .before .before .round-and-word4 .ensures .1 in
+    let r₃ = c .before .before .before .before .round-and-word3 .ensures .1 in
+    let r₂ = c .before .before .before .before .before .before .round-and-word2 .ensures .1 in
+    let r₁ = c .before .before .before .before .before .before .before .before .round-and-word .ensures .1 in
     let read = c .before .before .before .before .before .before .before .before .before .before in
     let a = read .before .before .args in
     let own = four-steps (a .t) (scheduleAt (a .l) (a .w .now)) (stateAt (a .l) (a .st .now)) (read .state-of .ensures) in
-    let two = own (r₁ .1 .0) (r₁ .1 .1 .1) (r₂ .1 .0) (r₂ .1 .1 .1) in
+    let two = own (r₁ .word) (r₁ .round) (r₂ .word) (r₂ .round) in
     let p = c .put-state .ensures in (
-      (p .0 .0, r₄ .0),
+      (p .0 .0, size),
       (
-        two (r₃ .1 .0) (r₃ .1 .1 .1) (r₄ .1 .0) (r₄ .1 .1 .1) (p .0 .1),
-        ((λ k h n. r₄ .1 .1 .0 k h n ∙ r₃ .1 .1 .0 k h n ∙ r₂ .1 .1 .0 k h n ∙ r₁ .1 .1 .0 k h n), p .1),
+        two (r₃ .word) (r₃ .round) (r₄ .word) (r₄ .round) (p .0 .1),
+        ((λ k h n. r₄ .others k h n ∙ r₃ .others k h n ∙ r₂ .others k h n ∙ r₁ .others k h n), p .1),
       ),
     )
 

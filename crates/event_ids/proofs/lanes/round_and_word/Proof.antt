@@ -75,14 +75,12 @@ returns c =
     let t = start .args .t in
     let v = c .before .before .schedule-sum .result in (
       simp length-set (start .pre .2),
-      (
-        schedule-stored l t w (start .pre .0) v (start .pre .1) (start .pre .2) (c .before .before .schedule-sum .ensures),
-        (
-          schedules-kept l t w (start .pre .0) v (start .pre .1) (start .pre .2),
-          rw (getD-column l 64 t w (omega arith))
-              (rw (constant-at K (start .args .k .now) l t (start .pre .1) (omega arith) (start .pre .3)) at (c .round .ensures)),
-        ),
-      ),
+      record {
+        word = schedule-stored l t w (start .pre .0) v (start .pre .1) (start .pre .2) (c .before .before .schedule-sum .ensures);
+        others = schedules-kept l t w (start .pre .0) v (start .pre .1) (start .pre .2);
+        round = rw (getD-column l 64 t w (omega arith))
+            (rw (constant-at K (start .args .k .now) l t (start .pre .1) (omega arith) (start .pre .3)) at (c .round .ensures));
+      },
     )
 
 pub round-and-word-spec : {M : Type 1} → statement M
