@@ -47,7 +47,7 @@ static int kept(void)
 static void start(const char *what, uint8_t want, uint8_t *s, size_t s_len, const uint8_t *e, size_t e_len)
 {
     size_t count = 77;
-    uint8_t got = pelchunda_start(s, s_len, e, e_len, &count);
+    uint8_t got = pelchunda_start(s, s_len, &count, e, e_len);
     check(what, got == want && count == 0 && kept());
 }
 
@@ -323,7 +323,7 @@ static void try_full(void)
     uint8_t e[EVENT], repeat = 77;
     size_t count = 77;
     uint32_t tally[3] = {0, 0xffffffff, 0xffffffff};
-    check("full: start", pelchunda_start(store, STORE, creator, EVENT, &count) == 0 && count == 1);
+    check("full: start", pelchunda_start(store, STORE, &count, creator, EVENT) == 0 && count == 1);
     make_join(e, 4, 5, 12);
     for (unsigned k = 1; k < PELCHUNDA_PLACES; k++) {
         e[32] = (uint8_t)k;
@@ -345,7 +345,7 @@ int main(void)
     memset(store, 0xa5, sizeof store);
     memset(out, 0x5a, sizeof out);
     try_start();
-    check("start", pelchunda_start(store, STORE, creator, EVENT, &count) == 0 && count == 1);
+    check("start", pelchunda_start(store, STORE, &count, creator, EVENT) == 0 && count == 1);
     try_take();
     try_bundle();
     try_reports();

@@ -1,15 +1,19 @@
 /*
  * pelchunda.h: the calls of the door unit, for C99 and C++.
  *
- * Link with libunit_c.a (rt staticlib unit_c, x86-64). The library needs memcpy
- * and memset of the C library, and nothing else; it has no state of its own and
- * uses no heap.
+ * Link with libpelchunda.a (x86-64). The library needs memcpy and memset of the
+ * C library, and nothing else; it has no state of its own and uses no heap.
+ *
+ * The library's functions come first. After them stand functions of this header
+ * alone: the same calls on a struct pelchunda_unit, readers of rows, and words.
  *
  * A slice of bytes is two arguments: a pointer, and a length that has its name
- * and `_len`. Each call returns 0, or the number of a refusal (below). What it
- * answers besides goes to the numbers behind the other pointers. A refused
- * call leaves every slice and these numbers as they were; only a start then
- * gives the count 0, and a take raises its tally's refused figure.
+ * and `_len`. All calls have one order of arguments: the store, its count, what
+ * is offered or asked, the output, the numbers answered, the tally. Each call
+ * returns 0, or the number of a refusal (below). What it answers besides goes to
+ * the numbers behind the other pointers. A refused call leaves every slice and
+ * these numbers as they were; only a start then gives the count 0, and a take
+ * raises its tally's refused figure.
  *
  * What the library guarantees, by proof, for every content and every length of
  * the slices and every count: the call returns, reads and writes nothing but
@@ -28,8 +32,12 @@
  * - Nothing else writes what a call is lent, or reads what the call may write,
  *   until it returns. Two threads may call at once on different memory, or
  *   both read one store.
- * - The stack has room: the bytes are said at each call. They are measured as
- *   compiled for x86-64 and rounded up, and not proved.
+ * - The stack has room: the bytes are said at each call, from the caller's stack
+ *   pointer just before the call down. They are upper bounds, found in the
+ *   compiled library by tools/stack.py, and not proved. They take it that memcpy
+ *   and memset use at most 128 bytes below their return address. (Where a
+ *   dynamic linker binds these at their first call, that call takes some KiB
+ *   more: link with -z now or -static.)
  * - Between calls the store and the count are kept as the last call left them.
  *   If they are not, the calls are still safe, but what they answer is about
  *   the bytes that stand there now.
@@ -40,9 +48,42 @@
 #include <stddef.h>
 #include <stdint.h>
 
+#if SIZE_MAX != 0xffffffffffffffffu
+#error "pelchunda: the library is for a size_t of 64 bits"
+#endif
+
+/* For compilers that know these attributes: an answer that nobody looks at, and
+ * a null pointer where there must be a number, get a warning. Either macro may
+ * be defined empty beforehand. */
+#ifndef PELCHUNDA_MUST_USE
+#if defined(__GNUC__)
+#define PELCHUNDA_MUST_USE __attribute__((warn_unused_result))
+#else
+#define PELCHUNDA_MUST_USE
+#endif
+#endif
+#ifndef PELCHUNDA_NONNULL
+#if defined(__GNUC__)
+#define PELCHUNDA_NONNULL(...) __attribute__((nonnull(__VA_ARGS__)))
+#else
+#define PELCHUNDA_NONNULL(...)
+#endif
+#endif
+
 #ifdef __cplusplus
 extern "C" {
 #endif
+
+/* The version of this header; pelchunda_version answers the library's. The
+ * number is 10,000 * major + 100 * minor + patch. */
+#define PELCHUNDA_VERSION "1.0.0"
+#define PELCHUNDA_VERSION_NUMBER 10000
+
+/* The format number of an event, its bytes 14 and 15. Another gets 3. */
+#define PELCHUNDA_FORMAT_NUMBER 0
+
+/* The most bytes of stack that any call uses. */
+#define PELCHUNDA_STACK_BYTES 38232
 
 /* Sizes in bytes, and the number of places of a store. */
 #define PELCHUNDA_EVENT_BYTES 192
@@ -92,18 +133,25 @@ enum pelchunda_figure {
 };
 
 /*
+ * The version of the library, as PELCHUNDA_VERSION_NUMBER.
+ *
+ * stack    8 bytes
+ */
+uint32_t pelchunda_version(void);
+
+/*
  * Starts a unit: puts the create event into place 0 of the store.
  *
  * store    49,152 bytes; those past place 0 may be any, and stay
- * event    192 bytes
  * count    is 1 after the call, and 0 after a refusal
+ * event    192 bytes
  * returns  0, 1, 3 or 5; a refusal leaves the store as it was
  * empty    store or event: 1
- * stack    256 bytes
+ * stack    176 bytes
  */
-uint8_t pelchunda_start(uint8_t *store, size_t store_len,
-                        const uint8_t *event, size_t event_len,
-                        size_t *count);
+PELCHUNDA_MUST_USE PELCHUNDA_NONNULL(3)
+uint8_t pelchunda_start(uint8_t *store, size_t store_len, size_t *count,
+                        const uint8_t *event, size_t event_len);
 
 /*
  * Takes one event: puts a new one into the next place.
@@ -115,8 +163,9 @@ uint8_t pelchunda_start(uint8_t *store, size_t store_len,
  * returns  0 to 7; a refusal leaves the store, the count and repeat as they
  *          were
  * empty    store or event: 1
- * stack    13,952 bytes
+ * stack    13,880 bytes
  */
+PELCHUNDA_MUST_USE PELCHUNDA_NONNULL(3, 6)
 uint8_t pelchunda_take(uint8_t *store, size_t store_len, size_t *count,
                        const uint8_t *event, size_t event_len,
                        uint8_t *repeat);
@@ -129,8 +178,9 @@ uint8_t pelchunda_take(uint8_t *store, size_t store_len, size_t *count,
  *          the other two
  * returns  as pelchunda_take
  * empty    as pelchunda_take; the tally's refused is raised
- * stack    13,952 bytes
+ * stack    13,896 bytes
  */
+PELCHUNDA_MUST_USE PELCHUNDA_NONNULL(3, 6, 7)
 uint8_t pelchunda_take_counted(uint8_t *store, size_t store_len, size_t *count,
                                const uint8_t *event, size_t event_len,
                                uint8_t *repeat, uint32_t tally[3]);
@@ -146,8 +196,9 @@ uint8_t pelchunda_take_counted(uint8_t *store, size_t store_len, size_t *count,
  * returns  0, 1, 2 or 8; a refusal leaves the store, the count and the figures
  *          as they were
  * empty    store: 1; bundle: 8, where the store is good
- * stack    22,272 bytes
+ * stack    22,168 bytes
  */
+PELCHUNDA_MUST_USE PELCHUNDA_NONNULL(3, 6)
 uint8_t pelchunda_take_bundle(uint8_t *store, size_t store_len, size_t *count,
                               const uint8_t *bundle, size_t bundle_len,
                               uint32_t figures[3]);
@@ -159,8 +210,9 @@ uint8_t pelchunda_take_bundle(uint8_t *store, size_t store_len, size_t *count,
  *          4,294,967,295. A refused bundle leaves it as it was
  * returns  as pelchunda_take_bundle
  * empty    as pelchunda_take_bundle
- * stack    22,272 bytes
+ * stack    22,200 bytes
  */
+PELCHUNDA_MUST_USE PELCHUNDA_NONNULL(3, 6, 7)
 uint8_t pelchunda_take_bundle_counted(uint8_t *store, size_t store_len, size_t *count,
                                       const uint8_t *bundle, size_t bundle_len,
                                       uint32_t figures[3], uint32_t tally[3]);
@@ -172,8 +224,9 @@ uint8_t pelchunda_take_bundle_counted(uint8_t *store, size_t store_len, size_t *
  * place    the event's place: its 192 bytes start at store + 192 * place
  * returns  0, 1, 2 or 9; a refusal leaves place as it was
  * empty    store or id: 1
- * stack    12,672 bytes
+ * stack    13,800 bytes
  */
+PELCHUNDA_MUST_USE PELCHUNDA_NONNULL(6)
 uint8_t pelchunda_look_up(const uint8_t *store, size_t store_len, size_t count,
                           const uint8_t *id, size_t id_len,
                           uint16_t *place);
@@ -186,8 +239,9 @@ uint8_t pelchunda_look_up(const uint8_t *store, size_t store_len, size_t count,
  * rows     the number of rows
  * returns  0, 1, 2, 10 or 11; a refusal leaves out and rows as they were
  * empty    store: 1; out: 10, where the store is good
- * stack    33,792 bytes
+ * stack    33,816 bytes
  */
+PELCHUNDA_MUST_USE PELCHUNDA_NONNULL(6)
 uint8_t pelchunda_order(const uint8_t *store, size_t store_len, size_t count,
                         uint8_t *out, size_t out_len,
                         size_t *rows);
@@ -199,8 +253,9 @@ uint8_t pelchunda_order(const uint8_t *store, size_t store_len, size_t count,
  * verdict  0 waiting, 1 unsound, 2 void, 3 effective
  * returns  0, 1, 2, 9 or 11; a refusal leaves verdict as it was
  * empty    store or id: 1
- * stack    33,792 bytes
+ * stack    33,800 bytes
  */
+PELCHUNDA_MUST_USE PELCHUNDA_NONNULL(6)
 uint8_t pelchunda_verdict(const uint8_t *store, size_t store_len, size_t count,
                           const uint8_t *id, size_t id_len,
                           uint8_t *verdict);
@@ -218,8 +273,9 @@ uint8_t pelchunda_verdict(const uint8_t *store, size_t store_len, size_t count,
  *          they were
  * empty    store: 1; out, where the store is good: 10, or 0 where no link
  *          stands
- * stack    36,096 bytes
+ * stack    36,104 bytes
  */
+PELCHUNDA_MUST_USE PELCHUNDA_NONNULL(6, 7, 8)
 uint8_t pelchunda_map(const uint8_t *store, size_t store_len, size_t count,
                       uint8_t *out, size_t out_len,
                       size_t *rows, size_t *ended, size_t *joins);
@@ -232,8 +288,9 @@ uint8_t pelchunda_map(const uint8_t *store, size_t store_len, size_t count,
  * bytes    the length of the bundle
  * returns  0, 1, 2, 10 or 11; a refusal leaves out and bytes as they were
  * empty    store: 1; out: 10, where the store is good
- * stack    18,048 bytes
+ * stack    19,192 bytes
  */
+PELCHUNDA_MUST_USE PELCHUNDA_NONNULL(6)
 uint8_t pelchunda_write_out(const uint8_t *store, size_t store_len, size_t count,
                             uint8_t *out, size_t out_len,
                             size_t *bytes);
@@ -247,8 +304,9 @@ uint8_t pelchunda_write_out(const uint8_t *store, size_t store_len, size_t count
  * bytes    the length of the text
  * returns  0, 1, 2 or 10; a refusal leaves out and bytes as they were
  * empty    store: 1; out: 10, where the store is good
- * stack    38,144 bytes
+ * stack    38,232 bytes
  */
+PELCHUNDA_MUST_USE PELCHUNDA_NONNULL(6)
 uint8_t pelchunda_text(const uint8_t *store, size_t store_len, size_t count,
                        uint8_t *out, size_t out_len,
                        size_t *bytes);
@@ -262,8 +320,9 @@ uint8_t pelchunda_text(const uint8_t *store, size_t store_len, size_t count,
  * returns  0; 8 where the bundle is bad; 5 where it has no event. A refusal
  *          leaves offset as it was
  * empty    bundle: 8
- * stack    256 bytes
+ * stack    8 bytes
  */
+PELCHUNDA_MUST_USE PELCHUNDA_NONNULL(3)
 uint8_t pelchunda_first_event(const uint8_t *bundle, size_t bundle_len,
                               size_t *offset);
 
@@ -275,8 +334,9 @@ uint8_t pelchunda_first_event(const uint8_t *bundle, size_t bundle_len,
  * returns  0; 1 where the event has another length; 10 where id is too short.
  *          A refusal leaves id as it was
  * empty    event: 1; id: 10, where the event has its length
- * stack    1,280 bytes
+ * stack    1,256 bytes
  */
+PELCHUNDA_MUST_USE
 uint8_t pelchunda_id(const uint8_t *event, size_t event_len,
                      uint8_t *id, size_t id_len);
 
@@ -289,10 +349,168 @@ uint8_t pelchunda_id(const uint8_t *event, size_t event_len,
  * returns  0; 1 where events_len is no multiple of 192 or above 49,152; 10
  *          where ids is too short. A refusal leaves ids as it was
  * empty    events: 0, n is 0; ids: 10, where there is an event
- * stack    3,072 bytes
+ * stack    4,136 bytes
  */
+PELCHUNDA_MUST_USE
 uint8_t pelchunda_ids(const uint8_t *events, size_t events_len,
                       uint8_t *ids, size_t ids_len);
+
+/* ---- functions of this header alone ---- */
+
+/* A unit: a store and its count. It has 48 KiB: rather static than on the
+ * stack. Nothing but the calls below should write it. */
+struct pelchunda_unit {
+    uint8_t store[PELCHUNDA_STORE_BYTES];
+    size_t count;
+};
+
+/* The library's calls on a unit. An event has 192 bytes, an id 32. */
+
+PELCHUNDA_MUST_USE PELCHUNDA_NONNULL(1, 2)
+static inline uint8_t pelchunda_unit_start(struct pelchunda_unit *unit, const uint8_t *event)
+{
+    unit->count = 0;
+    return pelchunda_start(unit->store, sizeof unit->store, &unit->count, event, PELCHUNDA_EVENT_BYTES);
+}
+
+PELCHUNDA_MUST_USE PELCHUNDA_NONNULL(1, 2, 3)
+static inline uint8_t pelchunda_unit_take(struct pelchunda_unit *unit, const uint8_t *event, uint8_t *repeat)
+{
+    return pelchunda_take(unit->store, sizeof unit->store, &unit->count, event, PELCHUNDA_EVENT_BYTES, repeat);
+}
+
+PELCHUNDA_MUST_USE PELCHUNDA_NONNULL(1, 2, 3, 4)
+static inline uint8_t pelchunda_unit_take_counted(struct pelchunda_unit *unit, const uint8_t *event,
+                                                  uint8_t *repeat, uint32_t tally[3])
+{
+    return pelchunda_take_counted(unit->store, sizeof unit->store, &unit->count, event, PELCHUNDA_EVENT_BYTES,
+                                  repeat, tally);
+}
+
+PELCHUNDA_MUST_USE PELCHUNDA_NONNULL(1, 4)
+static inline uint8_t pelchunda_unit_take_bundle(struct pelchunda_unit *unit,
+                                                 const uint8_t *bundle, size_t bundle_len,
+                                                 uint32_t figures[3])
+{
+    return pelchunda_take_bundle(unit->store, sizeof unit->store, &unit->count, bundle, bundle_len, figures);
+}
+
+PELCHUNDA_MUST_USE PELCHUNDA_NONNULL(1, 4, 5)
+static inline uint8_t pelchunda_unit_take_bundle_counted(struct pelchunda_unit *unit,
+                                                         const uint8_t *bundle, size_t bundle_len,
+                                                         uint32_t figures[3], uint32_t tally[3])
+{
+    return pelchunda_take_bundle_counted(unit->store, sizeof unit->store, &unit->count, bundle, bundle_len,
+                                         figures, tally);
+}
+
+/* `event` is where the held event's 192 bytes start; a refusal leaves it. */
+PELCHUNDA_MUST_USE PELCHUNDA_NONNULL(1, 2, 3)
+static inline uint8_t pelchunda_unit_look_up(const struct pelchunda_unit *unit, const uint8_t *id,
+                                             const uint8_t **event)
+{
+    uint16_t place = 0;
+    uint8_t number = pelchunda_look_up(unit->store, sizeof unit->store, unit->count, id, PELCHUNDA_ID_BYTES, &place);
+    if (number == PELCHUNDA_OK) {
+        *event = unit->store + (size_t)place * PELCHUNDA_EVENT_BYTES;
+    }
+    return number;
+}
+
+PELCHUNDA_MUST_USE PELCHUNDA_NONNULL(1, 4)
+static inline uint8_t pelchunda_unit_order(const struct pelchunda_unit *unit,
+                                           uint8_t *out, size_t out_len, size_t *rows)
+{
+    return pelchunda_order(unit->store, sizeof unit->store, unit->count, out, out_len, rows);
+}
+
+PELCHUNDA_MUST_USE PELCHUNDA_NONNULL(1, 2, 3)
+static inline uint8_t pelchunda_unit_verdict(const struct pelchunda_unit *unit, const uint8_t *id, uint8_t *verdict)
+{
+    return pelchunda_verdict(unit->store, sizeof unit->store, unit->count, id, PELCHUNDA_ID_BYTES, verdict);
+}
+
+PELCHUNDA_MUST_USE PELCHUNDA_NONNULL(1, 4, 5, 6)
+static inline uint8_t pelchunda_unit_map(const struct pelchunda_unit *unit, uint8_t *out, size_t out_len,
+                                         size_t *rows, size_t *ended, size_t *joins)
+{
+    return pelchunda_map(unit->store, sizeof unit->store, unit->count, out, out_len, rows, ended, joins);
+}
+
+PELCHUNDA_MUST_USE PELCHUNDA_NONNULL(1, 4)
+static inline uint8_t pelchunda_unit_write_out(const struct pelchunda_unit *unit,
+                                               uint8_t *out, size_t out_len, size_t *bytes)
+{
+    return pelchunda_write_out(unit->store, sizeof unit->store, unit->count, out, out_len, bytes);
+}
+
+PELCHUNDA_MUST_USE PELCHUNDA_NONNULL(1, 4)
+static inline uint8_t pelchunda_unit_text(const struct pelchunda_unit *unit,
+                                          uint8_t *out, size_t out_len, size_t *bytes)
+{
+    return pelchunda_text(unit->store, sizeof unit->store, unit->count, out, out_len, bytes);
+}
+
+/* Rows, read from an order or a map that a call wrote. */
+
+struct pelchunda_order_row {
+    const uint8_t *id; /* 32 bytes, within the order that was read */
+    uint16_t height;
+    uint8_t verdict;
+};
+
+struct pelchunda_map_row {
+    uint16_t port_a, port_b;
+    uint8_t kind_a, kind_b;
+    uint16_t metres;
+};
+
+/* The big-endian number of two bytes. */
+static inline uint16_t pelchunda_number_at(const uint8_t *at)
+{
+    return (uint16_t)(at[0] << 8 | at[1]);
+}
+
+/* Row i of an order, the first being row 0. */
+static inline struct pelchunda_order_row pelchunda_order_row_at(const uint8_t *order, size_t i)
+{
+    const uint8_t *at = order + i * PELCHUNDA_ORDER_ROW_BYTES;
+    struct pelchunda_order_row row;
+    row.id = at;
+    row.height = pelchunda_number_at(at + 32);
+    row.verdict = at[34];
+    return row;
+}
+
+/* Row i of a map, the first being row 0. */
+static inline struct pelchunda_map_row pelchunda_map_row_at(const uint8_t *map, size_t i)
+{
+    const uint8_t *at = map + i * PELCHUNDA_MAP_ROW_BYTES;
+    struct pelchunda_map_row row;
+    row.port_a = pelchunda_number_at(at);
+    row.port_b = pelchunda_number_at(at + 2);
+    row.kind_a = at[4];
+    row.kind_b = at[5];
+    row.metres = pelchunda_number_at(at + 6);
+    return row;
+}
+
+/* The English word for a number that a call returned. */
+static inline const char *pelchunda_number_word(uint8_t number)
+{
+    static const char *const words[] = {
+        "done",          "wrong length", "bad store",  "bad field", "other room",       "wrong create event",
+        "cord too long", "store full",   "bad bundle", "not held",  "output too short", "too high",
+    };
+    return number < sizeof words / sizeof words[0] ? words[number] : "no number of a unit";
+}
+
+/* The English word for a verdict. */
+static inline const char *pelchunda_verdict_word(uint8_t verdict)
+{
+    static const char *const words[] = {"waiting", "unsound", "void", "effective"};
+    return verdict < sizeof words / sizeof words[0] ? words[verdict] : "no verdict";
+}
 
 #ifdef __cplusplus
 }

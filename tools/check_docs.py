@@ -16,6 +16,8 @@ ALLOWED = set("""
     try ci must-fail staticlib logic proved axioms foreign cache incremental logic-built libraries-built trusted nat
     rattle_open_to_read rattle_set_errno memcpy memset compare/target/differences
     a/b crates/a/must-fail/b.edit crate/specs/File.name
+    MANIFEST lib/libpelchunda.a lib/pkgconfig/pelchunda.pc share/pelchunda/sample share/pelchunda/acceptance
+    share/doc/pelchunda share/pelchunda/sample/room.txt contracts/unit_c.rt first.c target/delivery/pelchunda-VERSION
 """.split())
 
 findings = []
@@ -81,6 +83,8 @@ def known(piece, words):
     """Whether a word in backquotes names something. Words of fewer than three letters are not tested."""
     if piece in ALLOWED or piece in words or len(re.findall(r"[^\W\d_]", piece)) < 3:
         return True
+    if re.fullmatch(r"pelchunda-[\d.]+", piece):  # the delivery's folder: check_version compares it
+        return True
     if "::" in piece:
         crate, _, name = piece.rpartition("::")
         return in_code(crate, name) if (CRATES / crate).is_dir() else name in words
@@ -133,6 +137,14 @@ def check_counts(document):
         for said in re.findall(rf"\b(\d+)\s+{thing}\b", read(document)):
             if int(said) != count:
                 report(document, f"says {said} {thing}, and there are {count}")
+
+
+def check_version(document):
+    """The version, where a document names the delivery's folder."""
+    version = re.search(r'#define PELCHUNDA_VERSION "(.*)"', read(ROOT / "include/pelchunda.h"))[1]
+    for said in re.findall(r"pelchunda-(\d+\.\d+\.\d+)", read(document)):
+        if said != version:
+            report(document, f"says version {said}, and it is {version}")
 
 
 def check_links(document):
@@ -259,6 +271,7 @@ def main():
         check_names(document, words)
         check_counts(document)
         check_links(document)
+        check_version(document)
     check_edits()
     check_trust()
     print("\n".join(findings + [f"documents: {len(findings)} findings in {len(DOCS)} files"]))

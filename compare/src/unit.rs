@@ -9,7 +9,8 @@ pub const UNSET_FIGURES: [u32; 3] = [0xa5a5_a5a1, 0xa5a5_a5a2, 0xa5a5_a5a3];
 
 #[rustfmt::skip]
 extern "C" {
-    fn pelchunda_start(store: *mut u8, store_len: usize, event: *const u8, event_len: usize, count: *mut usize) -> u8;
+    fn pelchunda_version() -> u32;
+    fn pelchunda_start(store: *mut u8, store_len: usize, count: *mut usize, event: *const u8, event_len: usize) -> u8;
     fn pelchunda_take(
         store: *mut u8, store_len: usize, count: *mut usize, event: *const u8, event_len: usize, repeat: *mut u8,
     ) -> u8;
@@ -49,6 +50,28 @@ extern "C" {
     fn pelchunda_ids(events: *const u8, events_len: usize, ids: *mut u8, ids_len: usize) -> u8;
 }
 
+/// Where the machine code of a call starts.
+pub fn address(name: &str) -> *const () {
+    match name {
+        "version" => pelchunda_version as *const (),
+        "start" => pelchunda_start as *const (),
+        "take" => pelchunda_take as *const (),
+        "take_counted" => pelchunda_take_counted as *const (),
+        "take_bundle" => pelchunda_take_bundle as *const (),
+        "take_bundle_counted" => pelchunda_take_bundle_counted as *const (),
+        "look_up" => pelchunda_look_up as *const (),
+        "order" => pelchunda_order as *const (),
+        "verdict" => pelchunda_verdict as *const (),
+        "map" => pelchunda_map as *const (),
+        "write_out" => pelchunda_write_out as *const (),
+        "text" => pelchunda_text as *const (),
+        "first_event" => pelchunda_first_event as *const (),
+        "id" => pelchunda_id as *const (),
+        "ids" => pelchunda_ids as *const (),
+        _ => panic!("no call has the name {name}"),
+    }
+}
+
 /// The pointer under which a slice is lent.
 #[inline(always)]
 fn lent(bytes: &[u8]) -> *const u8 {
@@ -71,9 +94,14 @@ fn lent_mut(bytes: &mut [u8]) -> *mut u8 {
 // SAFETY, of each call below: every pointer comes from a slice or a reference of this call, lent with the slice's own
 // length; the borrows keep them valid and apart.
 
+/// The library's version, as one number.
+pub fn version() -> u32 {
+    unsafe { pelchunda_version() }
+}
+
 /// The number.
 pub fn start(store: &mut [u8], count: &mut usize, event: &[u8]) -> u8 {
-    unsafe { pelchunda_start(lent_mut(store), store.len(), lent(event), event.len(), count) }
+    unsafe { pelchunda_start(lent_mut(store), store.len(), count, lent(event), event.len()) }
 }
 
 /// The number, then 0 for stored or 1 for repeat.

@@ -14,6 +14,10 @@ use Rattle.takes.specs.declared.Tally.{Tally}
 use Rattle.takes.specs.Takes.{Placed, stored, repeat}
 use Rattle.reports.specs.Reports.{Report, report}
 
+-- the version 1.0.0 as one number: 10,000 × major + 100 × minor + patch
+abbrev pub version : ℕ
+version = 10000
+
 -- what a pointer shows after a call: the value, or what it showed before
 abbrev pub kept : {A B : Type 0} → (A → B) → B → Answer A → B
 kept shown before (value a) = shown a

@@ -1,7 +1,8 @@
-// The unit's calls for C: numbers and byte slices, a slice as a pointer and a length. Each function returns 0, or the refusal's
-// number of document 01; what it answers besides goes to numbers behind pointers, which a refusal leaves as they were, but for the
-// count of a refused start, which is 0. Each makes one call of `unit`, or of the crate below it that answers by value, and shows the
-// answer; `include/pelchunda.h` declares them.
+// The unit's calls for C: numbers and byte slices, a slice as a pointer and a length. All have one order of parameters: the store,
+// its count, what is offered or asked, the output, the numbers answered, the tally. Each function returns 0, or the refusal's number
+// of document 01; what it answers besides goes to numbers behind pointers, which a refusal leaves as they were, but for the count of
+// a refused start, which is 0. Each makes one call of `unit`, or of the crate below it that answers by value, and shows the answer;
+// `include/pelchunda.h` declares them.
 ghost use mathlib.Core.Path.{_≡_};
 ghost use Rattle.cords.specs.Cords.{cordLimit};
 ghost use Rattle.event.specs.Answers.{shownNumber};
@@ -11,7 +12,7 @@ ghost use Rattle.takes.specs.Takes.{answerOfTake, answerOfBundle, startOf, take
 ghost use Rattle.tally.specs.Tallies.{tallied};
 ghost use Rattle.reports.specs.Reports.{orderOf, verdictOf, mapOf, writtenOf, answerOfCount};
 ghost use Rattle.text.specs.Text.{textOf};
-ghost use Rattle.unit_c.specs.Numbers.{kept, placedNumber, figureList, tallyIn, idOf, idsOf};
+ghost use Rattle.unit_c.specs.Numbers.{kept, placedNumber, figureList, tallyIn, idOf, idsOf, version};
 use bundles::FirstAnswer;
 use store::FindAnswer;
 use unit::BundleAnswer;
@@ -20,6 +21,17 @@ use unit::MapAnswer;
 use unit::TakeAnswer;
 use unit::Tally;
 use unit::VerdictAnswer;
+
+// The version of these functions; the header has the same (`PELCHUNDA_VERSION_NUMBER`).
+const VERSION: u32 = 10000;
+
+// The version of the library that is linked, for a caller who compares it with the header's.
+#[no_mangle]
+pub extern "C" fn pelchunda_version() -> u32
+    ensures { λ r. ⌜ r ≡ version ⌝ }
+{
+    VERSION
+}
 
 // A take's answer: `repeat` is 0 where the event was stored, 1 where its id is held already.
 fn show_placed(answer: TakeAnswer, repeat: &mut u8) -> u8
@@ -86,7 +98,7 @@ fn show_count(answer: CountAnswer, count: &mut usize) -> u8
 
 // Starts a unit with a create event; the count is then 1, and 0 after a refusal.
 #[no_mangle]
-pub extern "C" fn pelchunda_start(store: &mut [u8], event: &[u8], count: &mut usize) -> u8
+pub extern "C" fn pelchunda_start(store: &mut [u8], count: &mut usize, event: &[u8]) -> u8
     ensures { λ r. ⌜ r ≡ shownNumber (startOf (now (store .entry)) (now (event .entry)) .answer) ⌝ }
     ensures { λ _. ⌜ now (store .exit) ≡ startOf (now (store .entry)) (now (event .entry)) .store ⌝ }
     ensures { λ _. ⌜ now (count .exit) ≡ startOf (now (store .entry)) (now (event .entry)) .count ⌝ }
