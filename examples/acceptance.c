@@ -209,14 +209,9 @@ static void report(struct answer *a, char letter, size_t n)
     size_t numbers[3] = {UNSET, UNSET, UNSET};
     fill(out, n, OUT_FILL);
     switch (letter) {
-    case 'O':
-        a->number = pelchunda_order(store, store_len, count, out, n, &numbers[0]);
-        break;
-    case 'M':
-        a->number = pelchunda_map(store, store_len, count, out, n, &numbers[0], &numbers[1], &numbers[2]);
-        break;
-    default:
-        a->number = pelchunda_write_out(store, store_len, count, out, n, &numbers[0]);
+    case 'O': a->number = pelchunda_order(store, store_len, count, out, n, &numbers[0]); break;
+    case 'M': a->number = pelchunda_map(store, store_len, count, out, n, &numbers[0], &numbers[1], &numbers[2]); break;
+    default: a->number = pelchunda_write_out(store, store_len, count, out, n, &numbers[0]);
     }
     for (unsigned i = 0; i < (letter == 'M' ? 3u : 1u); i++) {
         a->values[i] = (uint32_t)numbers[i];
@@ -266,70 +261,63 @@ static void poke(const uint8_t *bytes, size_t len)
 static void set(char letter, const uint8_t *payload, size_t len)
 {
     switch (letter) {
-    case 'C':
-        count = word_at(payload);
-        break;
-    case 'N':
-        store_len = word_at(payload);
-        break;
-    case 'P':
-        poke(payload, len);
-        break;
+    case 'C': count = word_at(payload); break;
+    case 'N': store_len = word_at(payload); break;
+    case 'P': poke(payload, len); break;
     case 'Y':
         for (unsigned i = 0; i < 3; i++) {
             tally[i] = word_at(payload + 4 * i);
         }
         break;
-    default:
-        reset();
+    default: reset();
     }
 }
 
 /* ---- the comparison ---- */
 
-/* Makes a call, or sets something; the name of the call, or a null pointer. */
-static const char *make(const struct recorded *r, struct answer *a)
+static const struct {
+    char letter;
+    const char *name;
+} names[] = {
+    {'S', "start"},   {'T', "take counted"}, {'t', "take"}, {'B', "bundle counted"}, {'b', "bundle"},
+    {'L', "look-up"}, {'V', "verdict"},      {'O', "order"}, {'M', "map"},           {'W', "write-out"},
+    {'R', "text"},    {'I', "id"},           {'J', "ids"},   {'K', "version"},
+};
+
+/* The name of a call, or a null pointer where the letter is none. */
+static const char *name_of(char letter)
+{
+    for (size_t i = 0; i < sizeof names / sizeof names[0]; i++) {
+        if (names[i].letter == letter) {
+            return names[i].name;
+        }
+    }
+    return NULL;
+}
+
+/* Makes a call, or sets something. */
+static void make(const struct recorded *r, struct answer *a)
 {
     const uint8_t *payload = r->len == 0 ? NULL : payloads + r->at;
     switch (r->letter) {
     case 'S':
         a->number = pelchunda_start(store, store_len, &count, payload, r->len);
         left(a, NULL, 0);
-        return "start";
-    case 'T':
-    case 't':
-        take(a, payload, r->len, r->letter == 'T');
-        return "take";
-    case 'B':
-    case 'b':
-        take_bundle(a, payload, r->len, r->letter == 'B');
-        return "bundle";
-    case 'L':
-        look_up(a, payload, r->len);
-        return "look-up";
-    case 'V':
-        verdict(a, payload, r->len);
-        return "verdict";
+        break;
+    case 'T': take(a, payload, r->len, 1); break;
+    case 't': take(a, payload, r->len, 0); break;
+    case 'B': take_bundle(a, payload, r->len, 1); break;
+    case 'b': take_bundle(a, payload, r->len, 0); break;
+    case 'L': look_up(a, payload, r->len); break;
+    case 'V': verdict(a, payload, r->len); break;
     case 'O':
     case 'M':
-    case 'W':
-        report(a, r->letter, word_at(payload));
-        return r->letter == 'O' ? "order" : r->letter == 'M' ? "map" : "write-out";
-    case 'R':
-        text_of(a, payload, r->len);
-        return "text";
-    case 'I':
-        a->number = pelchunda_id(payload, r->len, a->digest, sizeof a->digest);
-        return "id";
-    case 'J':
-        ids(a, payload, r->len);
-        return "ids";
-    case 'K':
-        a->number = pelchunda_version() != PELCHUNDA_VERSION_NUMBER;
-        return "version";
-    default:
-        set(r->letter, payload, r->len);
-        return NULL;
+    case 'W': report(a, r->letter, word_at(payload)); break;
+    case 'R': text_of(a, payload, r->len); break;
+    case 'I': a->number = pelchunda_id(payload, r->len, a->digest, sizeof a->digest); break;
+    case 'J': ids(a, payload, r->len); break;
+    case 'K': a->number = pelchunda_version() != PELCHUNDA_VERSION_NUMBER; break;
+    default: set(r->letter, payload, r->len);
     }
 }
 
@@ -382,10 +370,11 @@ int acceptance(void)
     reset();
     for (size_t i = 0; i < CALLS; i++) {
         struct answer a = {0, {0}, {0}};
-        const char *name = make(&calls[i], &a);
+        const char *name = name_of(calls[i].letter);
+        make(&calls[i], &a);
         made += name != NULL;
-        const char *differs = name == NULL ? NULL : difference(&a, &calls[i].answer);
-        if (differs != NULL) {
+        const char *differs = difference(&a, &calls[i].answer);
+        if (name != NULL && differs != NULL) {
             put(put(put(put(put_number(put(line, "FAIL call "), made), ", "), name), ": "), differs);
             acceptance_show(line);
             return 1;

@@ -1,8 +1,9 @@
 #!/usr/bin/env python3
-"""Checks README.md and docs/*.md against the repository: names in backquotes, must-fail edits, counts, the lines that
-docs/TRUST.md says are to be read, and links. It needs no build. It prints a line per finding, and its status is 1 where
+"""Checks README.md and docs/*.md against the repository: names in backquotes, must-fail edits, counts, bytes of stack, the
+version, the lines that docs/TRUST.md says are to be read, and links. It needs no build. It prints a line per finding, and its status is 1 where
 there is one."""
 import re
+import subprocess
 import sys
 from pathlib import Path
 
@@ -126,9 +127,16 @@ def check_edits():
         findings.append(f"crates/{crate}/must-fail/{edit}.edit: named neither in CONTRACTS nor in TRACEABILITY")
 
 
-def check_counts(document):
-    """Numbers of crates, of must-fail edits and of programs, where a document states them in digits."""
+def recorded_calls():
+    """How many calls the acceptance test makes."""
+    script = [sys.executable, str(ROOT / "tools/acceptance_calls.py")]
+    return int(subprocess.run(script, capture_output=True, text=True, check=True).stderr.split()[0])
+
+
+def check_counts(document, recorded):
+    """Numbers of crates, of must-fail edits, of programs and of recorded calls, where a document states them in digits."""
     counts = {
+        "recorded calls": recorded,
         "crates": len(re.findall(r"(?m)^\w+:", read(ROOT / "crates.txt"))),
         "must-fail edits": len(list(CRATES.glob("*/must-fail/*.edit"))),
         "programs": len(list(CRATES.glob("*/src/main.rt"))),
@@ -137,6 +145,15 @@ def check_counts(document):
         for said in re.findall(rf"\b(\d+)\s+{thing}\b", read(document)):
             if int(said) != count:
                 report(document, f"says {said} {thing}, and there are {count}")
+
+
+def check_stack():
+    """The bounds of docs/PERFORMANCE.md are the header's figures."""
+    document = ROOT / "docs/PERFORMANCE.md"
+    figures = re.findall(r" \* stack +([\d,]+) bytes\n \*/\n(?:PELCHUNDA.*\n)?\w+ (\w+)\(", read(ROOT / "include/pelchunda.h"))
+    rows = re.findall(r"(?m)^\| `(pelchunda_\w+)` \|.*\| ([\d,]+) \|$", read(document))
+    if {name: bytes_ for bytes_, name in figures} != dict(rows):
+        report(document, "the bounds of the stack are not the header's figures")
 
 
 def check_version(document):
@@ -266,13 +283,14 @@ def check_trust():
 
 
 def main():
-    words = all_words()
+    words, recorded = all_words(), recorded_calls()
     for document in DOCS:
         check_names(document, words)
-        check_counts(document)
+        check_counts(document, recorded)
         check_links(document)
         check_version(document)
     check_edits()
+    check_stack()
     check_trust()
     print("\n".join(findings + [f"documents: {len(findings)} findings in {len(DOCS)} files"]))
     return 1 if findings else 0
