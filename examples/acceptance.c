@@ -3,10 +3,10 @@
  * they answer and leave with what was recorded. The record, acceptance_calls.h,
  * is written by tools/acceptance_calls.py from the answers of other
  * implementations. It covers what no proof covers: the compiler's back end, the
- * linker and the silicon.
+ * linker and the silicon. On a computer:
  *
- *     python3 tools/acceptance_calls.py > target/acceptance_calls.h
- *     gcc -std=c99 -O2 -I include -I target examples/acceptance.c examples/acceptance_host.c target/staticlib/libunit_c.a
+ *     gcc -std=c99 -O2 acceptance.c acceptance_host.c $(pkg-config --cflags --libs pelchunda) -o acceptance
+ *     ./acceptance
  *
  * A recorded call has a letter, a payload and an answer:
  *

@@ -2,8 +2,8 @@
  * Reads a bundle, starts a unit with its first event, takes the bundle, and
  * prints the map.
  *
- *     gcc -std=c99 -O2 -Wall -Wextra -I include examples/room.c target/staticlib/libunit_c.a -o room
- *     ./room samples/room.bun
+ *     gcc -std=c99 -O2 room.c $(pkg-config --cflags --libs pelchunda) -o room
+ *     ./room room.bun
  */
 #include <stdio.h>
 

@@ -5,16 +5,16 @@
 set -eu
 
 cd "$(dirname "$0")/.."
+. tools/compilers.sh
 library=$1
 folder=target/acceptance
-warnings="-Wall -Wextra -Wpedantic -Wconversion -Werror"
 
 # Compiles the test with the words given, and links it with a main to $folder/test.
 build() {
     # shellcheck disable=SC2086 # the words are meant to be parted
-    "$@" $warnings -I include -I "$folder" -c examples/acceptance.c -o "$folder/acceptance.o"
-    gcc -std=c99 -c examples/acceptance_host.c -o "$folder/host.o"
-    gcc "$folder/acceptance.o" "$folder/host.o" "$library" -o "$folder/test"
+    "$@" $warnings -I include -I "$folder" -c examples/acceptance.c -o "$folder/acceptance.o" &&
+        gcc -std=c99 -c examples/acceptance_host.c -o "$folder/host.o" &&
+        gcc "$folder/acceptance.o" "$folder/host.o" "$library" -o "$folder/test"
 }
 
 # Runs a command and shows its line; where it fails, so does this script.
@@ -37,14 +37,15 @@ wants_nothing_else() {
     }
 }
 
+# The test as a line at the factory has it, by one compiler.
+# shellcheck disable=SC2086
+try() {
+    build $1 -O2 -ffreestanding && wants_nothing_else && show "$1" "$folder/test"
+}
+
 mkdir -p "$folder"
 python3 tools/acceptance_calls.py >"$folder/acceptance_calls.h"
-for compiler in "gcc -std=c99" "gcc -std=c11" "g++ -x c++ -std=c++17" "clang -std=c99" "clang -std=c11" "clang++ -x c++ -std=c++17"; do
-    # shellcheck disable=SC2086
-    build $compiler -O2 -ffreestanding
-    wants_nothing_else
-    show "$compiler" "$folder/test"
-done
+each_compiler try
 gcc -std=c99 -g -O1 -fsanitize=address,undefined -fno-sanitize-recover=all -I include -I "$folder" \
     examples/acceptance.c examples/acceptance_host.c "$library" -o "$folder/checked"
 show "with sanitizers" "$folder/checked"

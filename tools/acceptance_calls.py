@@ -1,18 +1,16 @@
 #!/usr/bin/env python3
 """Writes the recorded calls of the acceptance test as C: tools/acceptance_calls.py > target/acceptance_calls.h
 
-They are taken from the script of `replay` and the lines that other implementations give for it (crates/replay/stdin and stdout);
-the ids of events are Python's own SHA-256. Of the script's parts, which begin with a reset, those are chosen that together have
-every number, verdict and text that occurs in the whole, in few bytes. It fails where a function, a number or a verdict is left
-out."""
+They are taken from the script of `replay` and the lines that other implementations give for it; the ids of events are Python's
+own SHA-256. Of the script's parts, which begin with a reset, those are chosen that together have every number, verdict and text
+that occurs in the whole, in few bytes. It fails where a function, a number or a verdict is left out."""
 import hashlib
 import re
 import struct
 import sys
-from pathlib import Path
 
-ROOT = Path(__file__).resolve().parent.parent
-SCRIPT, LINES = ROOT / "crates/replay/stdin", ROOT / "crates/replay/stdout"
+from replay_script import ROOT, records
+
 EVENT, LONGEST_FILE = 192, 65536
 UNSET = 165  # what a number shows that a refused call leaves
 VALUES = 7
@@ -26,20 +24,11 @@ NUMBERS, VERDICTS = set(range(1, 11)), set(range(4))  # 11 never occurs: that is
 TALLIED, OUTPUTS, SETTINGS = "TB", "OMW", "CPNYZ"
 
 
-def records(script):
-    """Letter and payload of each record."""
-    at = 0
-    while at < len(script):
-        letter, n = chr(script[at]), struct.unpack(">I", script[at + 1 : at + 5])[0]
-        yield letter, script[at + 5 : at + 5 + n]
-        at += 5 + n
-
-
-def parts(script, lines):
+def parts():
     """The script's parts, each a list of records with their lines. A print needs no other record, so each is a part; a file
     that is too long is refused by the printing program alone. A digest (D) of any bytes is no call of the library."""
     prints, others = [], [[]]
-    for (letter, payload), line in zip(records(script), lines, strict=True):
+    for letter, payload, line in records():
         if letter == "R" and len(payload) <= LONGEST_FILE:
             prints.append([(letter, payload, line)])
         elif letter == "Z":
@@ -172,8 +161,7 @@ def table(calls):
 
 
 def main():
-    script, lines = SCRIPT.read_bytes(), LINES.read_text(encoding="ascii").splitlines()
-    found = chosen(parts(script, lines))
+    found = chosen(parts())
     calls = [("K", b"", (0, [], None)), *(call for part in found for call in calls_of(part)), *id_calls(found)]
     missing = [name for names in left_out(calls) for name in sorted(names)]
     if missing:

@@ -1,7 +1,7 @@
 #!/usr/bin/env python3
 """Checks README.md and docs/*.md against the repository: names in backquotes, must-fail edits, counts, bytes of stack, the
-version, the lines that docs/TRUST.md says are to be read, and links. It needs no build. It prints a line per finding, and its status is 1 where
-there is one."""
+version, the lines that docs/TRUST.md says are to be read, and links. It needs no build. It prints a line per finding, and its
+status is 1 where there is one."""
 import re
 import subprocess
 import sys

@@ -7,9 +7,9 @@
 set -eu
 
 cd "$(dirname "$0")/.."
+. tools/compilers.sh
 library=target/staticlib/libunit_c.a
 first=target/libunit_c.first.a
-warnings="-Wall -Wextra -Wpedantic -Wconversion -Werror"
 status=0
 
 # Runs a command and keeps its status where it fails.
@@ -31,20 +31,18 @@ build_twice() {
         sha256sum "$library"
 }
 
-# Compiles examples/NAME.c with each compiler and standard, with and without the attributes, and without a warning.
+# Compiles an example with a compiler without a warning: as it is, and with the attributes left empty.
 # shellcheck disable=SC2086 # the words are meant to be parted
 compile() {
-    for compiler in "gcc -std=c99" "gcc -std=c11" "g++ -x c++ -std=c++17" "clang -std=c99" "clang -std=c11" "clang++ -x c++ -std=c++17"; do
-        $compiler -O2 $warnings -I include -c "examples/$1.c" -o "target/examples/$1.o" &&
-            $compiler -fsyntax-only $warnings -DPELCHUNDA_MUST_USE= "-DPELCHUNDA_NONNULL(...)=" -I include "examples/$1.c" || return 1
-    done
+    $2 -O2 $warnings -I include -c "examples/$1.c" -o "target/examples/$1.o" &&
+        $2 -fsyntax-only $warnings -DPELCHUNDA_MUST_USE= "-DPELCHUNDA_NONNULL(...)=" -I include "examples/$1.c"
 }
 
-# Compiles an example, and runs it with the other arguments.
+# Compiles an example with each compiler, and runs it with the other arguments.
 example() {
     name=$1
     shift
-    compile "$name" && gcc -std=c99 -O2 -I include "examples/$name.c" "$library" -o "target/examples/$name" &&
+    each_compiler compile "$name" && gcc -std=c99 -O2 -I include "examples/$name.c" "$library" -o "target/examples/$name" &&
         "target/examples/$name" "$@"
 }
 

@@ -4,7 +4,7 @@
 # (.ci/run, about 35 minutes) has passed; the gate's log is kept for the commit, so that a second run does not repeat it. Twice from
 # one commit gives the same bytes. Then the delivery is tried by itself.
 # usage: sh tools/deliver.sh [PREFIX]: with a prefix, such as /usr/local, it is installed there too.
-# Needs git, rt, python3, gcc and pkg-config.
+# Needs git, rt, python3, gcc, binutils and pkg-config.
 set -eu
 umask 022
 
@@ -62,7 +62,7 @@ END
 
 # Library, header, documents, contracts, sample and acceptance test, from the clone.
 fill() {
-    (cd "$clone" && rt staticlib unit_c >/dev/null) || fail "the library was not built"
+    (cd "$clone" && rt staticlib unit_c) >"$log.library" 2>&1 || fail "the library was not built: $log.library"
     rm -rf "$delivery"
     documents=$delivery/share/doc/pelchunda
     data=$delivery/share/pelchunda
@@ -74,7 +74,7 @@ fill() {
     cp "$clone/crates/unit_c/src/lib.rt" "$documents/contracts/unit_c.rt"
     cp "$clone/samples/room.bun" "$clone/samples/room.txt" "$clone/examples/room.c" "$data/sample/"
     cp "$clone"/examples/acceptance*.[ch] "$data/acceptance/"
-    python3 "$clone/tools/acceptance_calls.py" >"$data/acceptance/acceptance_calls.h"
+    python3 "$clone/tools/acceptance_calls.py" >"$data/acceptance/acceptance_calls.h" 2>>"$log.library"
 }
 
 # What the delivery is, as comments, and the SHA-256 of each file: sha256sum --check MANIFEST
@@ -89,14 +89,18 @@ END
 }
 
 # Compiles a program over the delivery's pkg-config file to $trial/program.
-# shellcheck disable=SC2046,SC2086 # the flags are meant to be parted
+# shellcheck disable=SC2086 # the flags are meant to be parted
 compile() {
-    gcc -std=c99 -O2 -Wall -Wextra -Werror "$@" $(PKG_CONFIG_PATH=$delivery/lib/pkgconfig pkg-config --cflags --libs pelchunda) -o "$trial/program"
+    flags=$(PKG_CONFIG_PATH=$delivery/lib/pkgconfig pkg-config --cflags --libs pelchunda)
+    gcc -std=c99 -O2 -Wall -Wextra -Werror "$@" $flags -o "$trial/program"
 }
 
-# The delivery by itself: its sums; the program of the integrator's page and the sample's, on the sample card; the acceptance test.
+# The delivery by itself: its sums; the header's bytes of stack; the program of the integrator's page and the sample's, on the sample
+# card; the acceptance test.
 try_delivery() {
     (cd "$delivery" && sha256sum --quiet --strict --check MANIFEST) || fail "the manifest's sums differ"
+    python3 "$clone/tools/stack.py" "$delivery/lib/libpelchunda.a" "$delivery/include/pelchunda.h" >/dev/null ||
+        fail "the header's bytes of stack are not the library's"
     trial=$(mktemp -d)
     sample=$delivery/share/pelchunda/sample
     acceptance=$delivery/share/pelchunda/acceptance

@@ -4,13 +4,13 @@ assumptions checked as it runs, by `rt try`; each must write what its `stdout` h
 run on the interpreter too. A checked run of the whole script of `replay` takes longer than `rt try` waits, so the script is
 run by parts, in a copy of the repository. It proves nothing. Its status is 1 where a run differs."""
 import shutil
-import struct
 import subprocess
 import sys
 import tempfile
 from pathlib import Path
 
-ROOT = Path(__file__).resolve().parent.parent
+from replay_script import ROOT, records, written
+
 WAYS = ["at -O0", "at -O3", "with LLVM's assumptions checked"]
 ON_INTERPRETER = {"vectors", "drawn_room"}  # the others read or write by C's functions, or take too many steps
 MOST_STORES = 70  # records of a part that print the store's digest, which takes the most time
@@ -38,43 +38,32 @@ def right(folder, name, what):
     return False
 
 
-def records(script):
-    at = 0
-    while at < len(script):
-        n = struct.unpack(">I", script[at + 1 : at + 5])[0]
-        yield script[at : at + 5 + n]
-        at += 5 + n
-
-
-def parts(script, lines):
+def parts():
     """The script with its lines in parts. A part ends with a reset, so that the next one starts as the program does."""
-    taken, shown, stores = [], [], 0
-    for record, line in zip(records(script), lines, strict=True):
-        taken.append(record)
-        shown.append(line)
-        stores += record[:1] in (b"S", b"T", b"B")
-        if record[:1] == b"Z" and stores > MOST_STORES:
-            yield b"".join(taken), "".join(shown), len(taken)
-            taken, shown, stores = [], [], 0
-    if taken:
-        yield b"".join(taken), "".join(shown), len(taken)
+    part, stores = [], 0
+    for letter, payload, line in records():
+        part.append((written(letter, payload), line + "\n"))
+        stores += letter in "STB"
+        if letter == "Z" and stores > MOST_STORES:
+            yield part
+            part, stores = [], 0
+    if part:
+        yield part
 
 
 def replayed():
-    """The script of `replay`, by parts, in a copy of the crates; how many records and parts, or none where one differs."""
-    script = (ROOT / "crates/replay/stdin").read_bytes()
-    lines = (ROOT / "crates/replay/stdout").read_text(encoding="ascii").splitlines(keepends=True)
+    """Runs the script of `replay` by parts in a copy of the crates: whether all is right, how many records and parts."""
     total, runs, good = 0, 0, True
     with tempfile.TemporaryDirectory() as folder:
         copy = Path(folder)
         shutil.copytree(ROOT / "crates", copy / "crates")
         shutil.copy(ROOT / "crates.txt", copy)
-        for part, shown, count in parts(script, lines):
-            (copy / "crates/replay/stdin").write_bytes(part)
-            (copy / "crates/replay/stdout").write_text(shown, encoding="ascii")
+        for part in parts():
+            (copy / "crates/replay/stdin").write_bytes(b"".join(record for record, _ in part))
+            (copy / "crates/replay/stdout").write_text("".join(line for _, line in part), encoding="ascii")
             runs += 1
             good &= right(copy, "replay", f"replay, part {runs}")
-            total += count
+            total += len(part)
     return good, total, runs
 
 
