@@ -75,16 +75,33 @@ static void try_numbers(void)
 
 static void try_words(void)
 {
-    check("word 0", strcmp(pelchunda_number_word(0), "done") == 0);
-    check("word 1", strcmp(pelchunda_number_word(PELCHUNDA_WRONG_LENGTH), "wrong length") == 0);
-    check("word 5", strcmp(pelchunda_number_word(PELCHUNDA_WRONG_CREATE), "wrong create event") == 0);
-    check("word 6", strcmp(pelchunda_number_word(PELCHUNDA_CORD_TOO_LONG), "cord too long") == 0);
-    check("word 11", strcmp(pelchunda_number_word(PELCHUNDA_TOO_HIGH), "too high") == 0);
-    check("word 12", strcmp(pelchunda_number_word(12), "no number of a unit") == 0);
-    check("word 255", strcmp(pelchunda_number_word(255), "no number of a unit") == 0);
-    check("verdict word 0", strcmp(pelchunda_verdict_word(PELCHUNDA_WAITING), "waiting") == 0);
-    check("verdict word 3", strcmp(pelchunda_verdict_word(PELCHUNDA_EFFECTIVE), "effective") == 0);
-    check("verdict word 4", strcmp(pelchunda_verdict_word(4), "no verdict") == 0);
+    static const struct {
+        uint8_t number;
+        const char *word;
+    } numbers[] = {
+        {PELCHUNDA_OK, "done"},
+        {PELCHUNDA_WRONG_LENGTH, "wrong length"},
+        {PELCHUNDA_BAD_STORE, "bad store"},
+        {PELCHUNDA_BAD_FIELD, "bad field"},
+        {PELCHUNDA_OTHER_ROOM, "other room"},
+        {PELCHUNDA_WRONG_CREATE, "wrong create event"},
+        {PELCHUNDA_CORD_TOO_LONG, "cord too long"},
+        {PELCHUNDA_STORE_FULL, "store full"},
+        {PELCHUNDA_BAD_BUNDLE, "bad bundle"},
+        {PELCHUNDA_NOT_HELD, "not held"},
+        {PELCHUNDA_SHORT_OUTPUT, "output too short"},
+        {PELCHUNDA_TOO_HIGH, "too high"},
+        {12, "no number of a unit"},
+        {255, "no number of a unit"},
+    };
+    for (size_t i = 0; i < sizeof numbers / sizeof numbers[0]; i++) {
+        check(numbers[i].word, strcmp(pelchunda_number_word(numbers[i].number), numbers[i].word) == 0);
+    }
+    check("waiting", strcmp(pelchunda_verdict_word(PELCHUNDA_WAITING), "waiting") == 0);
+    check("unsound", strcmp(pelchunda_verdict_word(PELCHUNDA_UNSOUND), "unsound") == 0);
+    check("void", strcmp(pelchunda_verdict_word(PELCHUNDA_VOID), "void") == 0);
+    check("effective", strcmp(pelchunda_verdict_word(PELCHUNDA_EFFECTIVE), "effective") == 0);
+    check("no verdict", strcmp(pelchunda_verdict_word(4), "no verdict") == 0);
 }
 
 /* Start and takes: the answers, and what they leave. */
