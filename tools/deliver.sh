@@ -9,6 +9,7 @@ set -eu
 umask 022
 
 cd "$(dirname "$0")/.."
+root=$(pwd -P)
 fail() {
     echo "deliver: $*" >&2
     exit 1
@@ -18,9 +19,9 @@ fail() {
 commit=$(git rev-parse HEAD)
 version=$(sed -n 's/^#define PELCHUNDA_VERSION "\(.*\)"$/\1/p' include/pelchunda.h)
 format=$(sed -n 's/^#define PELCHUNDA_FORMAT_NUMBER //p' include/pelchunda.h)
-clone=$PWD/target/gate/clone
-log=$PWD/target/gate/$commit.log
-delivery=$PWD/target/delivery/pelchunda-$version
+clone=$root/target/gate/clone
+log=$root/target/gate/$commit.log
+delivery=$root/target/delivery/pelchunda-$version
 
 # A clean clone of the commit; one that stands from the gate is kept, since all is proved there.
 make_clone() {
