@@ -2,8 +2,9 @@
 use Prim.Native.Nat.{ℕ, _*_, _/_, _≤_}
 use native.Mathlib.Omega.{arith}
 use mathlib.Core.Path.{_≡_, refl, sym, ap, ap₂, _∙_}
-use mathlib.Core.Bool.{true, _&&_}
-use mathlib.Core.List.{List, [], _++_, map, flatten, Memᴰ·of-map}
+use mathlib.Core.Bool.{Bool, true, _&&_}
+use mathlib.Core.Option.{none}
+use mathlib.Core.List.{List, [], _∷_, _++_, map, flatten, Memᴰ·of-map}
 use lib.Dec.{eqb, leb}
 use lib.ListN.{length, drop, length-map, take-append-drop}
 use lib.Seq.{take-at}
@@ -13,15 +14,17 @@ use Rattle.lists.specs.Chunks.{chunks, length-chunks, chunks-determine, AllOfLe
 use Rattle.octets.specs.Octets.{pasted}
 use Rattle.sha256.specs.Sha256.{sha256, sha256-length}
 use Rattle.model.specs.Output.{overwritten, overwritten-more}
-use Rattle.event.specs.Answers.{shownNumber}
-use Rattle.unit_c.specs.Numbers.{idOf, idsOf}
+use Rattle.event.specs.Answers.{shownNumber, must, firstFailed}
+use Rattle.unit_c.specs.Numbers.{idTests, idOf, idsOf}
 
 -- what was pasted at the front is what the definition writes
 pub id-written : (event out digest o : Bytes) → length event ≡ 192 → 32 ≤ length out → length digest ≡ 32
     → digest ≡ sha256 event → o ≡ pasted out 0 digest → (0 ≡ shownNumber (idOf event out .answer)) × (o ≡ idOf event out .out)
 unfolding idOf overwritten
 id-written event out digest o long room size e p =
-    rw (eq-eqb (length event) 192 long, le-leb 32 (length out) room, ← e) (refl, p ∙ overwritten-more [] digest out (omega arith))
+    let passes : firstFailed (idTests event out) ≡ none =
+    ap₂ (λ (a b : Bool). firstFailed (must 1 a ∷ must 10 b ∷ [])) (eq-eqb (length event) 192 long) (le-leb 32 (length out) room) in
+    rw (passes, ← e) (refl, p ∙ overwritten-more [] digest out (omega arith))
 
 -- a table of ids at the front of the output is what the definition writes
 module _ (events out : Bytes) where

@@ -1,4 +1,5 @@
 use mathlib.Core.Path.{refl}
+use lib.ListN.{length}
 use borrow.Author.Tests.{eq-eqb, ne-eqb, lt-leb}
 use Rattle.unit_c.specs.Numbers.{idOf}
 use Rattle.unit_c.proofs.IdsWritten.{id-written}
@@ -12,7 +13,9 @@ returns c = rw (ne-eqb _ _ (c .if1 .taken)) (refl, refl)
 
 returns-2 : tie.Need-returns-2
 unfolding idOf
-returns-2 c = rw (eq-eqb _ _ (c .before .if1 .left), lt-leb _ _ (c .if2 .taken)) (refl, refl)
+returns-2 c =
+    let id = length (c .before .before .before .before .args .id .now) in
+    rw (eq-eqb _ _ (c .before .if1 .left), lt-leb 32 id (c .if2 .taken)) (refl, refl)
 
 event-id-requires : tie.Need-event-id-requires
 event-id-requires c κs = search needs

@@ -26,8 +26,10 @@ mul-if2 c = search needs
 returns-2 : tie.Need-returns-2
 unfolding idsOf
 returns-2 c =
-    let events = length (c .before .before .before .before .args .events .now) in
-    rw (not-false (eqb events (events / 192 * 192) && leb (events / 192) 256) (c .before .if1 .left), lt-leb _ _ (c .if2 .taken)) (refl, refl)
+    let a = c .before .before .before .before .args in
+    let events = length (a .events .now) in
+    let whole = not-false (eqb events (events / 192 * 192) && leb (events / 192) 256) (c .before .if1 .left) in
+    rw (whole, lt-leb (events / 192 * 32) (length (a .ids .now)) (c .if2 .taken)) (refl, refl)
 
 find-ids-requires : tie.Need-find-ids-requires
 find-ids-requires c κs =
