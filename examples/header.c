@@ -90,8 +90,7 @@ static void try_words(void)
         {PELCHUNDA_BAD_BUNDLE, "bad bundle"},
         {PELCHUNDA_NOT_HELD, "not held"},
         {PELCHUNDA_SHORT_OUTPUT, "output too short"},
-        {PELCHUNDA_TOO_HIGH, "too high"},
-        {12, "no number of a unit"},
+        {11, "no number of a unit"},
         {255, "no number of a unit"},
     };
     for (size_t i = 0; i < sizeof numbers / sizeof numbers[0]; i++) {

@@ -1,8 +1,7 @@
 /*
  * Calls each function with null pointers of length 0, with wrong lengths and
  * with whatever else it refuses, and checks the number that it returns and that
- * what it was lent is as it was; the count is 0 after a refused start. Number 11
- * is left out: no store has it.
+ * what it was lent is as it was; the count is 0 after a refused start.
  *
  *     gcc -std=c99 -Wall -Wextra -Werror -I include examples/refusals.c target/staticlib/libunit_c.a -o refusals
  *     ./refusals

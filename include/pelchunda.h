@@ -76,8 +76,8 @@ extern "C" {
 
 /* The version of this header; pelchunda_version answers the library's. The
  * number is 10,000 * major + 100 * minor + patch. */
-#define PELCHUNDA_VERSION "1.0.0"
-#define PELCHUNDA_VERSION_NUMBER 10000
+#define PELCHUNDA_VERSION "1.1.0"
+#define PELCHUNDA_VERSION_NUMBER 10100
 
 /* The format number of an event, its bytes 14 and 15. Another gets 3. */
 #define PELCHUNDA_FORMAT_NUMBER 0
@@ -113,8 +113,8 @@ enum pelchunda_number {
     PELCHUNDA_STORE_FULL = 7,     /* 256 held and the id new */
     PELCHUNDA_BAD_BUNDLE = 8,     /* bundle under 12 bytes, or a trailer field wrong, or distance past the front */
     PELCHUNDA_NOT_HELD = 9,       /* verdict or look-up of an id not held */
-    PELCHUNDA_SHORT_OUTPUT = 10,  /* output too short */
-    PELCHUNDA_TOO_HIGH = 11       /* a height above 255: proved never to occur */
+    PELCHUNDA_SHORT_OUTPUT = 10   /* output too short */
+    /* 11 is struck: no call returns it, and it is not given out again */
 };
 
 /* The verdicts of pelchunda_verdict and of the order's rows. */
@@ -234,10 +234,10 @@ uint8_t pelchunda_look_up(const uint8_t *store, size_t store_len, size_t count,
 /*
  * Writes the order: a row for each settled event, by height, then by id.
  *
- * out      a row is id (32 bytes), height (2, big-endian), verdict (1), zero
- *          (1); the bytes past the last row stay
+ * out      a row is id (32 bytes), height (2, big-endian, at most 255),
+ *          verdict (1), zero (1); the bytes past the last row stay
  * rows     the number of rows
- * returns  0, 1, 2, 10 or 11; a refusal leaves out and rows as they were
+ * returns  0, 1, 2 or 10; a refusal leaves out and rows as they were
  * empty    store: 1; out: 10, where the store is good
  * stack    33,816 bytes
  */
@@ -251,7 +251,7 @@ uint8_t pelchunda_order(const uint8_t *store, size_t store_len, size_t count,
  *
  * id       32 bytes
  * verdict  0 waiting, 1 unsound, 2 void, 3 effective
- * returns  0, 1, 2, 9 or 11; a refusal leaves verdict as it was
+ * returns  0, 1, 2 or 9; a refusal leaves verdict as it was
  * empty    store or id: 1
  * stack    33,800 bytes
  */
@@ -269,7 +269,7 @@ uint8_t pelchunda_verdict(const uint8_t *store, size_t store_len, size_t count,
  * rows     the number of rows
  * ended    the number of links that were removed
  * joins    the number of joins that were run: rows + ended
- * returns  0, 1, 2, 10 or 11; a refusal leaves out and the three numbers as
+ * returns  0, 1, 2 or 10; a refusal leaves out and the three numbers as
  *          they were
  * empty    store: 1; out, where the store is good: 10, or 0 where no link
  *          stands
@@ -286,7 +286,7 @@ uint8_t pelchunda_map(const uint8_t *store, size_t store_len, size_t count,
  *
  * out      192 bytes an event and 12 more; the bytes past them stay
  * bytes    the length of the bundle
- * returns  0, 1, 2, 10 or 11; a refusal leaves out and bytes as they were
+ * returns  0, 1, 2 or 10; a refusal leaves out and bytes as they were
  * empty    store: 1; out: 10, where the store is good
  * stack    19,192 bytes
  */
@@ -500,7 +500,7 @@ static inline const char *pelchunda_number_word(uint8_t number)
 {
     static const char *const words[] = {
         "done",          "wrong length", "bad store",  "bad field", "other room",       "wrong create event",
-        "cord too long", "store full",   "bad bundle", "not held",  "output too short", "too high",
+        "cord too long", "store full",   "bad bundle", "not held",  "output too short",
     };
     return number < sizeof words / sizeof words[0] ? words[number] : "no number of a unit";
 }

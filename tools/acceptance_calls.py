@@ -20,7 +20,7 @@ MADE_BY = {
     "S": "start", "T": "take_counted", "t": "take", "B": "take_bundle_counted", "b": "take_bundle", "L": "look_up",
     "O": "order", "V": "verdict", "M": "map", "W": "write_out", "R": "first_event text", "I": "id", "J": "ids", "K": "version",
 }
-NUMBERS, VERDICTS = set(range(1, 11)), set(range(4))  # 11 never occurs: that is proved
+NUMBERS, VERDICTS = set(range(1, 11)), set(range(4))
 TALLIED, OUTPUTS, SETTINGS = "TB", "OMW", "CPNYZ"
 
 

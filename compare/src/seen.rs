@@ -2,9 +2,9 @@
 
 use crate::cases::{Answer, Kind, KINDS};
 
-/// Numbers of answers: 0 good, 1 to 11 refusals.
-const NUMBERS: usize = 12;
-/// The refusals that must come up. Number 11 stands for a height above 255, which 256 places cannot have.
+/// Numbers of answers: 0 good, 1 to 10 refusals.
+const NUMBERS: usize = 11;
+/// The refusals that must come up.
 const EXPECTED: std::ops::RangeInclusive<usize> = 1..=10;
 /// The bytes of the small bundle that is damaged byte by byte.
 pub const BUNDLE: usize = 5 + 3 * 192 + 12;
@@ -16,6 +16,8 @@ pub struct Seen {
     verdicts: [usize; 4],
     /// The order's rows by verdict.
     rows: [usize; 4],
+    /// The greatest height in the order's rows.
+    highest: u16,
     /// Links standing, links ended, joins run.
     links: [u64; 3],
     repeats: usize,
@@ -33,6 +35,7 @@ impl Seen {
             answers: [[0; NUMBERS]; KINDS.len()],
             verdicts: [0; 4],
             rows: [0; 4],
+            highest: 0,
             links: [0; 3],
             repeats: 0,
             twins: 0,
@@ -51,7 +54,10 @@ impl Seen {
             Kind::Verdict => self.verdicts[a.values[0] as usize] += 1,
             Kind::Take | Kind::TakeCounted => self.repeats += a.values[0] as usize,
             Kind::Order => {
-                a.out.chunks_exact(36).take(a.values[0] as usize).for_each(|row| self.rows[row[34] as usize] += 1)
+                for row in a.out.chunks_exact(36).take(a.values[0] as usize) {
+                    self.rows[row[34] as usize] += 1;
+                    self.highest = self.highest.max(u16::from_be_bytes([row[32], row[33]]));
+                }
             }
             Kind::Map => self.links = [0, 1, 2].map(|i| self.links[i] + a.values[i]),
             _ => {}
@@ -87,6 +93,7 @@ impl Seen {
         for kind in KINDS {
             ask(self.answers[kind as usize][0] > 0, format!("no good {kind:?}"));
         }
+        ask(self.highest == 255, format!("no event of height 255; the greatest is {}", self.highest));
         ask(self.repeats > 0, "no repeat".into());
         ask(self.twins > 0, "no two units compared".into());
         ask(self.round_trips > 0, "no written bundle taken".into());
@@ -97,7 +104,7 @@ impl Seen {
 
     pub fn print(&self) {
         println!(
-            "{} calls in {} cases. Calls of each kind by answer (0 good, 1 to 11 refused):",
+            "{} calls in {} cases. Calls of each kind by answer (0 good, 1 to 10 refused):",
             self.calls, self.cases
         );
         let heads: String = (0..NUMBERS).map(|n| format!("{n:>7}")).collect();
@@ -112,7 +119,8 @@ impl Seen {
         println!("verdicts asked: waiting {w}, unsound {u}, void {v}, effective {e}; repeats {}", self.repeats);
         let ([_, u, v, e], [rows, ended, joins]) = (self.rows, self.links);
         println!(
-            "rows of order: unsound {u}, void {v}, effective {e}; maps: links {rows}, ended {ended}, joins {joins}"
+            "rows of order: unsound {u}, void {v}, effective {e}, greatest height {}; maps: links {rows}, ended {ended}, joins {joins}",
+            self.highest
         );
         let bytes = |all: &[bool]| format!("{} of {}", all.iter().filter(|b| **b).count(), all.len());
         println!(

@@ -4,4 +4,5 @@ pub mod Written
 pub mod Figures
 pub mod Trip
 pub mod Sums
+pub mod Struck
 pub mod Case

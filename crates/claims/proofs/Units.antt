@@ -24,7 +24,6 @@ use Rattle.takes.specs.TakeLaws.{Good}
 use Rattle.call_lists.specs.Calls.{Fits, Lent, heldBy, setOf}
 use Rattle.call_lists.specs.CallLaws.{set-held, calls-good}
 use Rattle.reports.specs.Reports.{heldView, writeTests, report, figuresOf, orderOf, mapOf, writtenOf, verdictOf}
-use Rattle.reports.specs.HeightsLow.{heights-low}
 use Rattle.claims.specs.Told.{setView, reportFrom, verdictFrom, Tells}
 use Rattle.claims.specs.ThirdDemand.{Given, leaves, counts, Makes}
 
@@ -38,8 +37,7 @@ module _ (m : Lent) (g : Good cordLimit (m .store) (m .count)) where
   reports : {A : Type 0} (a : A) (bytes out : Bytes)
       → report (firstFailed (writeTests cordLimit (m .store) (m .count) bytes out)) a bytes out ≡ reportFrom a bytes out
   reports a bytes out =
-      let low = heights-low cordLimit (m .store) (m .count) (g .passes) in
-      rw (eq-eqb (length (m .store)) 49152 (g .size), g .passes, low)
+      rw (eq-eqb (length (m .store)) 49152 (g .size), g .passes)
       (byBool (leb (length bytes) (length out)) (λ t. rw t) (λ f. rw f))
 
   -- so they tell the set whose view is that of the events held
@@ -61,8 +59,7 @@ module _ (m : Lent) (g : Good cordLimit (m .store) (m .count)) where
     where
       asked : (id : Bytes) → length id ≡ 32 → verdictOf cordLimit (m .store) (m .count) id ≡ verdictFrom v id
       asked id long =
-          let low = heights-low cordLimit (m .store) (m .count) (g .passes) in
-          rw (eq-eqb (length (m .store)) 49152 (g .size), eq-eqb (length id) 32 long, g .passes, low)
+          rw (eq-eqb (length (m .store)) 49152 (g .size), eq-eqb (length id) 32 long, g .passes)
           (byBool (isSome (v .find id)) (λ t. rw t) (λ f. rw f))
 
 -- ── lists of one set ────────────────────────────────────────────────────────────────────────────────────────────────────

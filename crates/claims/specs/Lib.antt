@@ -3,3 +3,4 @@ pub mod ThirdDemand
 pub mod Witness
 pub mod RoundTrip
 pub mod Sums
+pub mod Struck

@@ -8,6 +8,7 @@ ghost use Rattle.claims.specs.ThirdDemand.{ThirdDemand};
 ghost use Rattle.claims.specs.Witness.{Witness};
 ghost use Rattle.claims.specs.RoundTrip.{RoundTrip};
 ghost use Rattle.claims.specs.Sums.{FiguresAddUp, JoinsAddUp, Check2Exact};
+ghost use Rattle.claims.specs.Struck.{HeightsLow, Struck, EveryAnswerKept};
 
 // Two units, one create event, two lists of calls whose counted events make one set: equal answers, defined from the set.
 pub fn third_demand()
@@ -37,6 +38,21 @@ pub fn joins_add_up()
 // Check 2 passes what lists of calls leave, and nothing else.
 pub fn check_2_exact()
     ensures { λ _. ⌜ Check2Exact ⌝ }
+{}
+
+// No event held in a store that passes check 2 has a height above 255.
+pub fn heights_low()
+    ensures { λ _. ⌜ HeightsLow ⌝ }
+{}
+
+// No refusal has the number 11.
+pub fn number_11_struck()
+    ensures { λ _. ⌜ Struck ⌝ }
+{}
+
+// Order, verdict, map and write-out answer what they answered with a test for 11.
+pub fn answers_kept()
+    ensures { λ _. ⌜ EveryAnswerKept ⌝ }
 {}
 
 // The drawn examples 1 to 9, in one list.

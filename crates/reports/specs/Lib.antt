@@ -1,6 +1,5 @@
 pub mod Reports
 pub mod HeldEntries
-pub mod HeightsLow
 pub mod AfterStoreTests
 pub mod OpenedBytes
 pub mod OpenedReports

@@ -2,8 +2,8 @@
 use Prim.Native.Nat.{ℕ, _*_, _≤_}
 use native.Mathlib.Omega.{arith}
 use mathlib.Core.Path.{_≡_, refl, sym, ap, _∙_}
-use mathlib.Core.Option.{none, some}
-use mathlib.Core.List.{List, [], _∷_}
+use mathlib.Core.Option.{none}
+use mathlib.Core.List.{List}
 use lib.Dec.{leb}
 use lib.ListN.{length, take, drop}
 use lib.Seq.{length-take-le, take-at}
@@ -11,7 +11,7 @@ use Rattle.lists.specs.Cases.{byBool}
 use Rattle.lists.specs.Bytes.{Bytes}
 use Rattle.cords.specs.Cords.{cordLimit}
 use Rattle.event.specs.declared.Refusal.{Refusal}
-use Rattle.event.specs.Answers.{refused, numberOf, must, firstFailed}
+use Rattle.event.specs.Answers.{refused, numberOf, firstFailed}
 use Rattle.model.specs.Verdicts.{verdict}
 use Rattle.model.specs.Map.{Link, machine}
 use Rattle.model.specs.MapLaws.{links-few}
@@ -27,10 +27,10 @@ use Rattle.text_format.specs.RowLaws.{text-of-store}
 use Rattle.openers.specs.declared.LinkAnswer.{LinkAnswer}
 use Rattle.openers.specs.declared.LinkAnswer.the-variants.{Linked, Refused}
 use Rattle.openers.specs.Opened.{heldView, storeTests, numberOfLinked, LinkedTables, LinkedStore}
-use Rattle.reports.specs.AfterStoreTests.{reported, passed-both, store-decides}
+use Rattle.reports.specs.AfterStoreTests.{passed-both, refused-early}
 use Rattle.reports.specs.HeldEntries.{held-entries}
 use Rattle.reports.specs.OpenedBytes.{entry-right}
-use Rattle.text.specs.Text.{textTests, textOf}
+use Rattle.text.specs.Text.{textOf}
 
 -- ── rows ────────────────────────────────────────────────────────────────────────────────────────────────────────────────
 
@@ -67,9 +67,7 @@ module _ {store : Bytes} {n : ℕ} {verdicts ports : List ℕ} {r : LinkAnswer} 
       → (refused (numberOf k) ≡ textOf cordLimit store n out .answer) × (out ≡ textOf cordLimit store n out .out)
   unfolding textOf
   text-refused k e =
-      reported (length text) text out (firstFailed (textTests cordLimit store n out)) (some (numberOf k))
-      (store-decides cordLimit store n (some (numberOf k)) (ap numberOfLinked (sym e) ∙ s .told)
-      (must 10 (leb (length text) (length out)) ∷ []))
+      refused-early cordLimit store n (length text) text out (numberOf k) (ap numberOfLinked (sym e) ∙ s .told)
 
   module _ {w : Ran} (told : r ≡ Linked w) where
     passed : none ≡ firstFailed (storeTests cordLimit store n)

@@ -42,11 +42,11 @@ longer-head : headLine 10 255 100 9
 unfolding headLine field decimal decimalIn
 longer-head = refl
 
--- the lines REFUSED 8 and REFUSED 11
+-- the lines REFUSED 8 and REFUSED 10
 example-refusal : refusalLine 8 ≡ 82 ∷ 69 ∷ 70 ∷ 85 ∷ 83 ∷ 69 ∷ 68 ∷ 32 ∷ 56 ∷ 10 ∷ []
 unfolding refusalLine field decimal decimalIn
 example-refusal = refl
 
-longer-refusal : refusalLine 11 ≡ 82 ∷ 69 ∷ 70 ∷ 85 ∷ 83 ∷ 69 ∷ 68 ∷ 32 ∷ 49 ∷ 49 ∷ 10 ∷ []
+longer-refusal : refusalLine 10 ≡ 82 ∷ 69 ∷ 70 ∷ 85 ∷ 83 ∷ 69 ∷ 68 ∷ 32 ∷ 49 ∷ 48 ∷ 10 ∷ []
 unfolding refusalLine field decimal decimalIn
 longer-refusal = refl

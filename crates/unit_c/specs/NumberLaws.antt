@@ -1,30 +1,15 @@
--- A call that returns 0 has a value: no refusal has the number 0.
-use Prim.Native.Nat.{ℕ, _≤_}
+-- A call that returns 0 has a value, and none returns 11: no refusal has the number 0, or the struck one.
+use Prim.Native.Nat.{ℕ}
 use native.Mathlib.Omega.{arith}
-use mathlib.Core.Path.{_≡_, refl}
-use mathlib.Core.Bool.{Bool, true, _&&_}
+use mathlib.Core.Path.{_≡_, refl, sym, ap, _∙_}
+use mathlib.Core.Bool.{Bool, true, false, not, _&&_}
 use mathlib.Core.Option.{some, Option·none-ne-some, Option·some-injective}
 use mathlib.Core.List.{List, [], _∷_}
-use lib.Dec.{ltb}
-use borrow.Author.Tests.{ltb-true}
-use Rattle.lists.specs.Cases.{byBool, byOption, and→}
+use lib.Dec.{eqb, ltb}
+use Rattle.lists.specs.Cases.{byBool, byOption, clash, and→}
 use Rattle.lists.specs.Bytes.{Bytes}
 use Rattle.lists.specs.Tests.{memberOf}
-use Rattle.event.specs.Answers.{Answer, value, refused, numberOf, shownNumber, Test, must, firstFailed}
-use Rattle.event.specs.declared.Refusal.{Refusal}
-use Rattle.event.specs.declared.Refusal.the-variants.{
-  WrongLength,
-  BadStore,
-  BadField,
-  OtherRoom,
-  WrongCreate,
-  CordTooLong,
-  StoreFull,
-  BadBundle,
-  NotHeld,
-  ShortOutput,
-  TooHigh,
-}
+use Rattle.event.specs.Answers.{Answer, value, refused, shownNumber, Test, must, firstFailed}
 use Rattle.sha256.specs.Sha256.{sha256}
 use Rattle.model.specs.Rows.{orderBytes, mapBytes, writtenBytes}
 use Rattle.store.specs.LookUp.{heldIds, lookUpTests, lookUpOf}
@@ -32,51 +17,45 @@ use Rattle.bundles.specs.FirstEvent.{firstTests, firstOf}
 use Rattle.takes.specs.Takes.{startTests, startOf, takeTests, takeAnswer, takeOf, bundleTests, bundleOf}
 use Rattle.takes.specs.TakeLaws.{take-answers}
 use Rattle.reports.specs.Reports.{heldView, writeTests, verdictTests, report, orderOf, mapOf, writtenOf, verdictOf}
-use Rattle.text.specs.Text.{textTests, textOf}
+use Rattle.text.specs.Text.{roomText, textOf}
 use Rattle.unit_c.specs.Numbers.{idTests, idOf, idsTests, idsOf}
 
--- no refusal of the code has the number 0
-pub number-positive : (k : Refusal) → 1 ≤ numberOf k
-number-positive WrongLength = omega arith
-number-positive BadStore = omega arith
-number-positive BadField = omega arith
-number-positive OtherRoom = omega arith
-number-positive WrongCreate = omega arith
-number-positive CordTooLong = omega arith
-number-positive StoreFull = omega arith
-number-positive BadBundle = omega arith
-number-positive NotHeld = omega arith
-number-positive ShortOutput = omega arith
-number-positive TooHigh = omega arith
+-- a number that is given out with a refusal: neither 0 nor 11
+abbrev pub givenOut : ℕ → Bool
+givenOut n = not (eqb n 0) && not (eqb n 11)
 
--- a refusal's number is above 0
 abbrev pub numbered : {A : Type 0} → Answer A → Bool
 numbered (value a) = true
-numbered (refused n) = ltb 0 n
+numbered (refused n) = givenOut n
 
 -- an answer that returns 0 then has a value
 pub zero-is-value : {A : Type 0} (a : Answer A) → numbered a ≡ true → shownNumber a ≡ 0 → (x : A) × (a ≡ value x)
 zero-is-value (value x) p e = (x, refl)
-zero-is-value (refused n) p e = absurd (omega (arith, ltb-true 0 n p))
+zero-is-value (refused n) p e = clash false (ap givenOut (sym e) ∙ p) refl
 
--- the number of each test is above 0
-abbrev positive : List Test → Bool
-positive [] = true
-positive (must n passed ∷ tests) = ltb 0 n && positive tests
+-- and none returns 11
+pub never-11 : {A : Type 0} (a : Answer A) → numbered a ≡ true → shownNumber a ≡ 11 → ⊥
+never-11 (value x) p e = omega (arith, e)
+never-11 (refused n) p e = clash false (ap givenOut (sym e) ∙ p) refl
+
+-- the number of each test is given out
+abbrev allGivenOut : List Test → Bool
+allGivenOut [] = true
+allGivenOut (must n passed ∷ tests) = givenOut n && allGivenOut tests
 
 -- so is that of the first that fails
-above : (tests : List Test) → positive tests ≡ true → (n : ℕ) → firstFailed tests ≡ some n → ltb 0 n ≡ true
-above [] p n e = absurd (Option·none-ne-some n e)
-above (must k passed ∷ tests) p n e =
+failed-given-out : (tests : List Test) → allGivenOut tests ≡ true → (n : ℕ) → firstFailed tests ≡ some n → givenOut n ≡ true
+failed-given-out [] p n e = absurd (Option·none-ne-some n e)
+failed-given-out (must k passed ∷ tests) p n e =
     byBool passed
-    (λ t. above tests (and→ (ltb 0 k) (positive tests) p .1) n (rw t at e))
-    (λ f. let same = Option·some-injective k n (rw f at e) in rw (← same) (and→ (ltb 0 k) (positive tests) p .0))
+    (λ t. failed-given-out tests (and→ (givenOut k) (allGivenOut tests) p .1) n (rw t at e))
+    (λ f. let same = Option·some-injective k n (rw f at e) in ap givenOut (sym same) ∙ and→ (givenOut k) (allGivenOut tests) p .0)
 
 -- and the number of a report
-report-numbered : {A : Type 0} (tests : List Test) → positive tests ≡ true → (a : A) (bytes out : Bytes)
+report-numbered : {A : Type 0} (tests : List Test) → allGivenOut tests ≡ true → (a : A) (bytes out : Bytes)
     → numbered (report (firstFailed tests) a bytes out .answer) ≡ true
 report-numbered tests p a bytes out =
-    byOption (firstFailed tests) (λ e. rw e) (λ n e. rw e (above tests p n e))
+    byOption (firstFailed tests) (λ e. rw e) (λ n e. rw e (failed-given-out tests p n e))
 
 -- the answers of the calls, each by its list of tests
 module _ (entry : ℕ → ℕ → ℕ) (store : Bytes) (count : ℕ) where
@@ -90,22 +69,22 @@ module _ (entry : ℕ → ℕ → ℕ) (store : Bytes) (count : ℕ) where
       (byBool (memberOf (sha256 e) (heldIds store count))
       (λ t. rw t)
       (λ f. rw f (byBool (ltb count 256) (λ t. rw t) (λ g. rw g)))))
-      (λ n p. rw p (above (takeTests entry store count e) refl n p)))
+      (λ n p. rw p (failed-given-out (takeTests entry store count e) refl n p)))
 
   pub bundle-numbered : (b : Bytes) → numbered (bundleOf entry store count b .answer) ≡ true
   unfolding bundleOf
   bundle-numbered b =
-      byOption (firstFailed (bundleTests entry store count b)) (λ p. rw p) (λ n p. rw p (above (bundleTests entry store count b) refl n p))
+      byOption (firstFailed (bundleTests entry store count b)) (λ p. rw p) (λ n p. rw p (failed-given-out (bundleTests entry store count b) refl n p))
 
   pub look-up-numbered : (id : Bytes) → numbered (lookUpOf entry store count id) ≡ true
   unfolding lookUpOf
   look-up-numbered id =
-      byOption (firstFailed (lookUpTests entry store count id)) (λ p. rw p) (λ n p. rw p (above (lookUpTests entry store count id) refl n p))
+      byOption (firstFailed (lookUpTests entry store count id)) (λ p. rw p) (λ n p. rw p (failed-given-out (lookUpTests entry store count id) refl n p))
 
   pub verdict-numbered : (id : Bytes) → numbered (verdictOf entry store count id) ≡ true
   unfolding verdictOf
   verdict-numbered id =
-      byOption (firstFailed (verdictTests entry store count id)) (λ p. rw p) (λ n p. rw p (above (verdictTests entry store count id) refl n p))
+      byOption (firstFailed (verdictTests entry store count id)) (λ p. rw p) (λ n p. rw p (failed-given-out (verdictTests entry store count id) refl n p))
 
   module _ (out : Bytes) where
     abbrev writes : Bytes → List Test
@@ -125,16 +104,16 @@ module _ (entry : ℕ → ℕ → ℕ) (store : Bytes) (count : ℕ) where
 
     pub text-numbered : numbered (textOf entry store count out .answer) ≡ true
     unfolding textOf
-    text-numbered = report-numbered (textTests entry store count out) refl _ _ out
+    text-numbered = report-numbered (writes (roomText (heldView store count))) refl _ _ out
 
 pub start-numbered : (store e : Bytes) → numbered (startOf store e .answer) ≡ true
 unfolding startOf
 start-numbered store e =
-    byOption (firstFailed (startTests store e)) (λ p. rw p) (λ n p. rw p (above (startTests store e) refl n p))
+    byOption (firstFailed (startTests store e)) (λ p. rw p) (λ n p. rw p (failed-given-out (startTests store e) refl n p))
 
 pub first-numbered : (b : Bytes) → numbered (firstOf b) ≡ true
 unfolding firstOf
-first-numbered b = byOption (firstFailed (firstTests b)) (λ p. rw p) (λ n p. rw p (above (firstTests b) refl n p))
+first-numbered b = byOption (firstFailed (firstTests b)) (λ p. rw p) (λ n p. rw p (failed-given-out (firstTests b) refl n p))
 
 pub id-numbered : (event out : Bytes) → numbered (idOf event out .answer) ≡ true
 unfolding idOf

@@ -14,9 +14,9 @@ use Rattle.takes.specs.declared.Tally.{Tally}
 use Rattle.takes.specs.Takes.{Placed, stored, repeat}
 use Rattle.reports.specs.Reports.{Report, report}
 
--- the version 1.0.0 as one number: 10,000 × major + 100 × minor + patch
+-- the version 1.1.0 as one number: 10,000 × major + 100 × minor + patch
 abbrev pub version : ℕ
-version = 10000
+version = 10100
 
 -- what a pointer shows after a call: the value, or what it showed before
 abbrev pub kept : {A B : Type 0} → (A → B) → B → Answer A → B
