@@ -4,3 +4,4 @@ pub mod Witness
 pub mod RoundTrip
 pub mod Sums
 pub mod Struck
+pub mod FourthBlock

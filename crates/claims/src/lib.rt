@@ -1,5 +1,6 @@
-// Claims about whole lists of calls, over the definitions that the code's contracts name. Each function does nothing: its contract
-// is the claim, so that the check lists it. The statements stand in specs/, their proofs in proofs/. Assumes nothing.
+// Claims about whole lists of calls, and those of document 02's requests, over the definitions that the code's contracts name. Each
+// function does nothing: its contract is the claim, so that the check lists it. The statements stand in specs/, their proofs in
+// proofs/. Assumes nothing.
 ghost use mathlib.Core.Path.{_≡_};
 ghost use mathlib.Core.Bool.{true};
 ghost use Rattle.lists.specs.Tests.{allOf};
@@ -9,6 +10,7 @@ ghost use Rattle.claims.specs.Witness.{Witness};
 ghost use Rattle.claims.specs.RoundTrip.{RoundTrip};
 ghost use Rattle.claims.specs.Sums.{FiguresAddUp, JoinsAddUp, Check2Exact};
 ghost use Rattle.claims.specs.Struck.{HeightsLow, Struck, EveryAnswerKept};
+ghost use Rattle.claims.specs.FourthBlock.{FourthSchedule};
 
 // Two units, one create event, two lists of calls whose counted events make one set: equal answers, defined from the set.
 pub fn third_demand()
@@ -53,6 +55,11 @@ pub fn number_11_struck()
 // Order, verdict, map and write-out answer what they answered with a test for 11.
 pub fn answers_kept()
     ensures { λ _. ⌜ EveryAnswerKept ⌝ }
+{}
+
+// The constant schedule of an event's fourth block has the words of FIPS 180-4.
+pub fn fourth_schedule()
+    ensures { λ _. ⌜ FourthSchedule ⌝ }
 {}
 
 // The drawn examples 1 to 9, in one list.

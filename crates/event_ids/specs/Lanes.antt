@@ -6,7 +6,8 @@ use Prim.Native.Nat.{ℕ, zero, suc, _+_, _*_, _/_, _<_}
 use lib.Dec.{eqb}
 use lib.ListN.{getD, set, take, replicate}
 use Rattle.sha256.specs.Constants.{K}
-use Rattle.sha256.specs.Sha256.{padded, nextWord, oneRound}
+use Rattle.sha256.specs.Sha256.{nextWord, oneRound}
+use Rattle.sha256.specs.FourthBlock.{paddingBlock}
 use Rattle.sha256.specs.declared.State.{State}
 
 -- the first n words of lane l
@@ -65,7 +66,7 @@ roundsFrom t (suc n) w s = oneRound (getD K (t + n) 0) (getD w (t + n) 0) (round
 
 -- a block that is the same in each lane: the fourth is the padding, any other zeros
 abbrev pub constantBlock : ℕ → List ℕ
-constantBlock b = cond (eqb b 3) (padded [] 1536) (replicate 64 0)
+constantBlock b = cond (eqb b 3) paddingBlock (replicate 64 0)
 
 -- the 64 words of k, each four times, in k4
 unfoldable pub FourTimes : List ℕ → List ℕ → Type 0

@@ -8,13 +8,10 @@ ghost use Rattle.octets.specs.Octets.{part};
 ghost use Rattle.sha256.specs.Constants.{K};
 ghost use Rattle.sha256.specs.Sha256.{padded, messageBlock, wordAt, words, H0, schedule, extended, oneRound, rounds};
 ghost use Rattle.sha256.specs.Sha256.{addStates, compress, digestBytes, sha256};
-ghost use Rattle.sha256.specs.Sums.{sums, EachSchedule};
 ghost use Rattle.event_ids.specs.Lanes.{scheduleAt, blockAt, stateAt, laneAt, steps, roundsFrom};
 ghost use Rattle.event_ids.specs.Lanes.{constantBlock, FourTimes};
 ghost use Rattle.event_ids.specs.Lanes.{EachLane, OtherSchedules, OtherStates, Stepped};
 use sha256::State;
-use sha256::constants::PADDING_SUMS;
-use sha256::constants::ROUND_CONSTANTS;
 
 // The round constants, each four times: so the constants of a round, one to a lane, are one vector.
 pub fn four_times(k: &[u32; 64]) -> [u32; 256]
@@ -176,43 +173,51 @@ fn all_rounds(st: &mut [u32; 32], w: &mut [u32; 256], k: &[u32; 256])
     last_rounds(st, w, k);
 }
 
-// In lane l, the rounds t to t + 3 by their sums.
-fn lane_summed_rounds(st: &mut [u32; 32], q: &[u32; 64], t: usize, l: usize)
-    requires { ⌜ (t + 4 ≤ 64) × (l < 4) × (length (now st) ≡ 32) ⌝ }
+// In lane l, the round t by a schedule that all lanes share.
+fn shared_round(s: State, w: &[u32; 64], k: &[u32; 256], t: usize, l: usize) -> State
+    requires { ⌜ (t < 64) × (l < 4) × (FourTimes K (now k)) ⌝ }
+    ensures { λ r. ⌜ r ≡ oneRound (getD K t 0) (getD (now (w .entry)) t 0) s ⌝ }
+{
+    sha256::round(s, k[l + t * 4], w[t])
+}
+
+// In lane l, the rounds t to t + 3 by a shared schedule.
+fn lane_shared_rounds(st: &mut [u32; 32], w: &[u32; 64], k: &[u32; 256], t: usize, l: usize)
+    requires { ⌜ (t + 4 ≤ 64) × (l < 4) × (length (now st) ≡ 32) × (FourTimes K (now k)) ⌝ }
     ensures { λ _. ⌜ length (now (st .exit)) ≡ 32 ⌝ }
-    ensures { λ _. ⌜ EachSchedule (now (q .entry)) (λ w. stateAt l (now (st .exit)) ≡ roundsFrom t 4 w (stateAt l (now (st .entry)))) ⌝ }
+    ensures { λ _. ⌜ stateAt l (now (st .exit)) ≡ roundsFrom t 4 (now (w .entry)) (stateAt l (now (st .entry))) ⌝ }
     ensures { λ _. ⌜ OtherStates l (now (st .entry)) (now (st .exit)) ⌝ }
 {
     let s = state_of(st, l);
-    let q1 = sha256::summed_round(s, q, t);
-    let q2 = sha256::summed_round(q1, q, t + 1);
-    let q3 = sha256::summed_round(q2, q, t + 2);
-    let q4 = sha256::summed_round(q3, q, t + 3);
+    let q1 = shared_round(s, w, k, t, l);
+    let q2 = shared_round(q1, w, k, t + 1, l);
+    let q3 = shared_round(q2, w, k, t + 2, l);
+    let q4 = shared_round(q3, w, k, t + 3, l);
     put_state(st, l, q4);
 }
 
-// In each lane, the rounds t to t + 3 by their sums.
-fn lanes_summed_rounds(st: &mut [u32; 32], q: &[u32; 64], t: usize)
-    requires { ⌜ (t + 4 ≤ 64) × (length (now st) ≡ 32) ⌝ }
+// In each lane, the rounds t to t + 3 by a shared schedule.
+fn lanes_shared_rounds(st: &mut [u32; 32], w: &[u32; 64], k: &[u32; 256], t: usize)
+    requires { ⌜ (t + 4 ≤ 64) × (length (now st) ≡ 32) × (FourTimes K (now k)) ⌝ }
     ensures { λ _. ⌜ length (now (st .exit)) ≡ 32 ⌝ }
-    ensures { λ _. ⌜ EachSchedule (now (q .entry)) (λ w. EachLane (λ l. stateAt l (now (st .exit)) ≡ roundsFrom t 4 w (stateAt l (now (st .entry))))) ⌝ }
+    ensures { λ _. ⌜ EachLane (λ l. stateAt l (now (st .exit)) ≡ roundsFrom t 4 (now (w .entry)) (stateAt l (now (st .entry)))) ⌝ }
 {
     let mut l = 0;
     while l < 4 {
-        lane_summed_rounds(st, q, t, l);
+        lane_shared_rounds(st, w, k, t, l);
         l += 1;
     }
 }
 
-// In each lane, all rounds by their sums.
-fn summed_rounds(st: &mut [u32; 32], q: &[u32; 64])
-    requires { ⌜ length (now st) ≡ 32 ⌝ }
+// In each lane, all rounds by a shared schedule.
+fn shared_rounds(st: &mut [u32; 32], w: &[u32; 64], k: &[u32; 256])
+    requires { ⌜ (length (now st) ≡ 32) × (FourTimes K (now k)) ⌝ }
     ensures { λ _. ⌜ length (now (st .exit)) ≡ 32 ⌝ }
-    ensures { λ _. ⌜ EachSchedule (now (q .entry)) (λ w. EachLane (λ l. stateAt l (now (st .exit)) ≡ rounds 64 w (stateAt l (now (st .entry))))) ⌝ }
+    ensures { λ _. ⌜ EachLane (λ l. stateAt l (now (st .exit)) ≡ rounds 64 (now (w .entry)) (stateAt l (now (st .entry)))) ⌝ }
 {
     let mut t = 0;
     while t < 64 {
-        lanes_summed_rounds(st, q, t);
+        lanes_shared_rounds(st, w, k, t);
         t += 4;
     }
 }
@@ -291,15 +296,15 @@ fn is_constant(events: &[u8], b: usize) -> bool
     true
 }
 
-// The sums for such a block. The schedule of zeros is zeros. Both tables come from here, so that the rounds by their sums have
-// one place where they are called, and are compiled into it.
-fn constant_sums(b: usize) -> [u32; 64]
-    ensures { λ r. ⌜ r ≡ sums 64 (schedule (constantBlock b)) ⌝ }
+// The schedule of such a block; that of zeros is zeros. Both come from here, so that the rounds by a shared schedule have one place
+// where they are called, and are compiled into it.
+fn constant_schedule(b: usize) -> [u32; 64]
+    ensures { λ r. ⌜ r ≡ schedule (constantBlock b) ⌝ }
 {
     if b == 3 {
-        PADDING_SUMS
+        sha256::padding_schedule()
     } else {
-        ROUND_CONSTANTS
+        [0u32; 64]
     }
 }
 
@@ -311,8 +316,8 @@ fn block_rounds(st: &mut [u32; 32], w: &mut [u32; 256], k: &[u32; 256], events: 
         ≡ rounds 64 (schedule (messageBlock (padded (part (now (events .entry)) (l * 192) 192) 1536) b)) (stateAt l (now (st .entry)))) ⌝ }
 {
     if is_constant(events, b) {
-        let q = constant_sums(b);
-        summed_rounds(st, &q);
+        let shared = constant_schedule(b);
+        shared_rounds(st, &shared, k);
     } else {
         load_events(events, b, w);
         all_rounds(st, w, k);

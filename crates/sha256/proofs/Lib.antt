@@ -1,8 +1,9 @@
 -- What several proofs cite.
 pub mod Digits
 pub mod Rounds
-pub mod Sums
+pub mod Zeros
 pub mod Rolling
+pub mod Schedule
 pub mod Stores
 pub mod Blocks
 pub mod Padding

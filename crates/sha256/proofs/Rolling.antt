@@ -20,12 +20,12 @@ use Rattle.sha256.proofs.Rounds.{round-turn, extended-length, extended-
 -- ---- a whole schedule
 
 module _ (m : List ℕ) (long : length m ≡ 16) where
-  first-length : (n : ℕ) → length (extended n m) ≡ n + 16
+  pub first-length : (n : ℕ) → length (extended n m) ≡ n + 16
   unfolding extended
   first-length n = let e : n + 0 ≡ n = omega arith in (rw e at (extended-length n 0 m)) ∙ ap (λ (k : ℕ). n + k) long
 
   -- the words of the first n + 16, in the whole
-  word-in : (n i : ℕ) → n ≤ 48 → i < n + 16 → getD (extended 48 m) i 0 ≡ getD (extended n m) i 0
+  pub word-in : (n i : ℕ) → n ≤ 48 → i < n + 16 → getD (extended 48 m) i 0 ≡ getD (extended n m) i 0
   word-in n i h l =
       let e : 48 - n + n ≡ 48 = omega arith in
       rw e at (extended-prefix (48 - n) n i m (omega (arith, first-length n)))

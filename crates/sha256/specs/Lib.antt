@@ -1,6 +1,6 @@
 pub mod Words
 pub mod Constants
 pub mod Sha256
-pub mod Sums
+pub mod FourthBlock
 pub mod Rolling
 pub mod Vectors

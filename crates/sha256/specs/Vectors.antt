@@ -2,9 +2,11 @@
 use mathlib.Core.Path.{_≡_, refl}
 use Prim.Native.Nat.{ℕ}
 use mathlib.Core.List.{List, [], _∷_, _++_}
+use lib.ListN.{getD, replicate}
 use Rattle.sha256.specs.Constants.{K}
 use Rattle.sha256.specs.Sha256.{wordBytes, lengthBytes, padded, words, nextWord, extended, oneRound, rounds, addStates}
-use Rattle.sha256.specs.Sha256.{compress, hashBlocks, hashAll, digestBytes, sha256}
+use Rattle.sha256.specs.Sha256.{schedule, compress, hashBlocks, hashAll, digestBytes, sha256}
+use Rattle.sha256.specs.FourthBlock.{fourthBlock}
 
 -- the digest and all that it computes with: where this is unfolded, so are they
 unfoldable pub sha256Computed : List ℕ → List ℕ
@@ -35,3 +37,12 @@ two-blocks : sha256
     ++ wordBytes 0xa33c_e459 ++ wordBytes 0x64ff_2167 ++ wordBytes 0xf6ec_edd4 ++ wordBytes 0x19db_06c1
 unfolding sha256Computed
 two-blocks = refl
+
+-- the last word of the schedule of the fourth block, as another implementation has it: of 192 bytes, and of 191, which is another
+fourth-of-192 : getD (schedule (fourthBlock (replicate 192 0))) 63 0 ≡ 0x8d58_7738
+unfolding sha256Computed
+fourth-of-192 = refl
+
+fourth-of-191 : getD (schedule (fourthBlock (replicate 191 0))) 63 0 ≡ 0x028d_127b
+unfolding sha256Computed
+fourth-of-191 = refl

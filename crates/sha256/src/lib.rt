@@ -1,7 +1,7 @@
 // SHA-256 of byte strings, as FIPS 180-4 defines it.
 //
-// It rests on std's wrapping sums, on bytes::copy and on octets::all_zero. Both public functions promise, for every slice, the 32 bytes that
-// `sha256` of specs/Sha256.antt gives: FIPS 180-4's own digest for each message of fewer than 2^64 bits.
+// It rests on std's wrapping sums, on bytes::copy and on octets::all_zero. `digest` and `event_id` promise, for every slice, the 32
+// bytes that `sha256` of specs/Sha256.antt gives: FIPS 180-4's own digest for each message of fewer than 2^64 bits.
 pub mod constants;
 
 ghost use mathlib.Core.Path.{_≡_};
@@ -12,10 +12,10 @@ ghost use Rattle.sha256.specs.Words.{_⊞_, Ch, Maj, Σ0, Σ1, σ0, σ1}
 ghost use Rattle.sha256.specs.Constants.{K};
 ghost use Rattle.sha256.specs.Sha256.{wordBytes, padded, wordAt, words, H0, extended, oneRound, rounds};
 ghost use Rattle.sha256.specs.Sha256.{addStates, compress, hashBlocks, hashAll, digestBytes, sha256};
-ghost use Rattle.sha256.specs.Sums.{EachSchedule};
+ghost use Rattle.sha256.specs.FourthBlock.{paddingSchedule};
 ghost use Rattle.sha256.specs.Rolling.{Grown, Rolling};
 ghost use Rattle.sha256.specs.declared.State.{State};
-use constants::PADDING_SUMS;
+use constants::PADDING_SCHEDULE;
 use constants::ROUND_CONSTANTS;
 use std::num::wrapping_add_u32;
 
@@ -42,7 +42,7 @@ pub fn digest(message: &[u8]) -> [u8; 32]
     to_bytes(hash_rest(s, &message[at..], (n as u64) << 3))
 }
 
-// SHA-256 too, of an event. For its 192 bytes the padding is one constant block.
+// SHA-256 too, of an event. For its 192 bytes the fourth block is the same whatever they are, and so is its schedule.
 pub fn event_id(event: &[u8]) -> [u8; 32]
     ensures { λ r. ⌜ r ≡ sha256 (now (event .entry)) ⌝ }
 {
@@ -52,8 +52,8 @@ pub fn event_id(event: &[u8]) -> [u8; 32]
     to_bytes(hash_event(event, &ROUND_CONSTANTS))
 }
 
-// The hash value of an event: its three blocks, and the padding. The constants are lent once, since a constant that is lent is
-// copied.
+// The hash value of an event: its three blocks, and the fourth by its constant schedule. The constants are lent once, since a
+// constant that is lent is copied.
 fn hash_event(event: &[u8], k: &[u32; 64]) -> State
     requires { ⌜ (length (now event) ≡ 192) × (now k ≡ K) ⌝ }
     ensures { λ r. ⌜ digestBytes r ≡ sha256 (now (event .entry)) ⌝ }
@@ -61,7 +61,15 @@ fn hash_event(event: &[u8], k: &[u32; 64]) -> State
     let s1 = compress_by(initial(), &event[0..64], k);
     let s2 = compress_by(s1, &event[64..128], k);
     let s3 = compress_third(s2, &event[128..192], k);
-    add_states(s3, summed_rounds(s3, &PADDING_SUMS))
+    let w = padding_schedule();
+    add_states(s3, scheduled_rounds(s3, &w, k))
+}
+
+// The schedule of the fourth block of 192 bytes.
+pub fn padding_schedule() -> [u32; 64]
+    ensures { λ r. ⌜ r ≡ paddingSchedule ⌝ }
+{
+    PADDING_SCHEDULE
 }
 
 // 6.2.2, for the third block of an event: where it has at most one parent, the block is zeros, and so is its schedule.
@@ -70,7 +78,7 @@ fn compress_third(s: State, block: &[u8], k: &[u32; 64]) -> State
     ensures { λ r. ⌜ r ≡ compress s (now (block .entry)) ⌝ }
 {
     if octets::all_zero(block) {
-        return add_states(s, summed_rounds(s, k));
+        return add_states(s, scheduled_rounds(s, &[0u32; 64], k));
     }
     compress_by(s, block, k)
 }
@@ -225,40 +233,41 @@ fn last_round(s: State, w: &[u32; 16], k: &[u32; 64], i: usize) -> State
     round(s, k[48 + i], w[i])
 }
 
-// All rounds by the sums of their constants and their words.
-fn summed_rounds(s0: State, q: &[u32; 64]) -> State
-    ensures { λ r. ⌜ EachSchedule (now (q .entry)) (λ w. r ≡ rounds 64 w s0) ⌝ }
+// All rounds of a block whose whole schedule is at hand.
+fn scheduled_rounds(s0: State, w: &[u32; 64], k: &[u32; 64]) -> State
+    requires { ⌜ now k ≡ K ⌝ }
+    ensures { λ r. ⌜ r ≡ rounds 64 (now (w .entry)) s0 ⌝ }
 {
     let mut s = s0;
     let mut t = 0;
     while t < 64 {
-        s = eight_rounds(s, q, t);
+        s = eight_rounds(s, w, k, t);
         t += 8;
     }
     s
 }
 
-// The eight rounds from t, by their sums: where s is what t rounds make of z, the result is what t + 8 rounds make of it.
-fn eight_rounds(s: State, q: &[u32; 64], t: usize) -> State
-    requires { ⌜ t + 8 ≤ 64 ⌝ }
-    ensures { λ r. ⌜ EachSchedule (now (q .entry)) (λ w. ((z : State) → s ≡ rounds t w z → r ≡ rounds (t + 8) w z)) ⌝ }
+// The eight rounds from t: where s is what t rounds make of z, the result is what t + 8 rounds make of it.
+fn eight_rounds(s: State, w: &[u32; 64], k: &[u32; 64], t: usize) -> State
+    requires { ⌜ (t + 8 ≤ 64) × (now k ≡ K) ⌝ }
+    ensures { λ r. ⌜ ((z : State) → s ≡ rounds t (now (w .entry)) z → r ≡ rounds (t + 8) (now (w .entry)) z) ⌝ }
 {
-    let s1 = summed_round(s, q, t);
-    let s2 = summed_round(s1, q, t + 1);
-    let s3 = summed_round(s2, q, t + 2);
-    let s4 = summed_round(s3, q, t + 3);
-    let s5 = summed_round(s4, q, t + 4);
-    let s6 = summed_round(s5, q, t + 5);
-    let s7 = summed_round(s6, q, t + 6);
-    summed_round(s7, q, t + 7)
+    let s1 = round_at(s, w, k, t);
+    let s2 = round_at(s1, w, k, t + 1);
+    let s3 = round_at(s2, w, k, t + 2);
+    let s4 = round_at(s3, w, k, t + 3);
+    let s5 = round_at(s4, w, k, t + 4);
+    let s6 = round_at(s5, w, k, t + 5);
+    let s7 = round_at(s6, w, k, t + 6);
+    round_at(s7, w, k, t + 7)
 }
 
-// The round t by the sum of its constant and its word, from a table of such sums: no schedule is worked out.
-pub fn summed_round(s: State, q: &[u32; 64], t: usize) -> State
-    requires { ⌜ t < 64 ⌝ }
-    ensures { λ r. ⌜ EachSchedule (now (q .entry)) (λ w. r ≡ oneRound (getD K t 0) (getD w t 0) s) ⌝ }
+// The round t.
+fn round_at(s: State, w: &[u32; 64], k: &[u32; 64], t: usize) -> State
+    requires { ⌜ (t < 64) × (now k ≡ K) ⌝ }
+    ensures { λ r. ⌜ r ≡ oneRound (getD K t 0) (getD (now (w .entry)) t 0) s ⌝ }
 {
-    round(s, q[t], 0)
+    round(s, k[t], w[t])
 }
 
 // 6.2.2, step 3: one round, with its constant and its word.

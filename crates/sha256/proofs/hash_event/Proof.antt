@@ -1,10 +1,9 @@
 -- `sha256::hash_event` meets its contract.
 -- Assumes nothing.
-use mathlib.Core.Path.{refl}
-use mathlib.Core.List.{[]}
-use Rattle.sha256.specs.Constants.{K}
-use Rattle.sha256.specs.Sha256.{wordBytes, lengthBytes, padded, words, nextWord, extended, schedule}
-use Rattle.sha256.specs.Sums.{sums}
+use mathlib.Core.Path.{ap, _∙_}
+use mathlib.Core.List.{List}
+use Prim.Native.Nat.{ℕ}
+use Rattle.sha256.specs.Sha256.{rounds}
 use Rattle.sha256.proofs.Event.{event}
 use borrow.Author.Needs.{needs}
 use Rattle.sha256.proofs.hash_event.Statement.{statement}
@@ -49,8 +48,11 @@ part-compress-third-end c = search needs
 compress-third-requires : tie.Need-compress-third-requires
 compress-third-requires c κs = search needs
 
-summed-rounds-requires : tie.Need-summed-rounds-requires
-summed-rounds-requires c κs = search needs
+padding-schedule-requires : tie.Need-padding-schedule-requires
+padding-schedule-requires c κs = search needs
+
+scheduled-rounds-requires : tie.Need-scheduled-rounds-requires
+scheduled-rounds-requires c κs = search needs
 
 add-states-requires : tie.Need-add-states-requires
 add-states-requires c κs = search needs
@@ -58,18 +60,19 @@ add-states-requires c κs = search needs
 returns : tie.Need-returns
 returns c =
     let c4 = c .before in
-    let c3 = c4 .before .before in
+    let table = c4 .before .before in
+    let c3 = table .before in
     let c2 = c3 .before .before in
     let c1 = c2 .before .before in
     let c0 = c1 .before .before in
     let start = c0 .before .before in
-    event (start .args .event .now) (schedule (padded [] 1536)) (start .pre .0) (c0 .initial .ensures) (c1 .compress-by .ensures) (c2 .compress-by2 .ensures)
-    (c3 .compress-third .ensures)
-    (c4 .summed-rounds .ensures _ (unfold K sums words nextWord extended wordBytes lengthBytes padded in refl)) (c .add-states .ensures) refl refl
+    let fourth = c4 .scheduled-rounds .ensures ∙ ap (λ (w : List ℕ). rounds 64 w (c3 .compress-third .result)) (table .padding-schedule .ensures) in
+    event (start .args .event .now) (start .pre .0) (c0 .initial .ensures) (c1 .compress-by .ensures) (c2 .compress-by2 .ensures)
+    (c3 .compress-third .ensures) fourth (c .add-states .ensures)
 
 pub hash-event-spec : {M : Type 1} → statement M
 hash-event-spec =
     tie.close
     (tie.spec initial-requires sub-compress-by part-compress-by-start part-compress-by-end compress-by-requires sub-compress-by-2 part-compress-by-start-2
     part-compress-by-end-2 compress-by-requires-2 sub-compress-third part-compress-third-start part-compress-third-end compress-third-requires
-    summed-rounds-requires add-states-requires returns)
+    padding-schedule-requires scheduled-rounds-requires add-states-requires returns)
