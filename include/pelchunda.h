@@ -163,7 +163,7 @@ uint8_t pelchunda_start(uint8_t *store, size_t store_len, size_t *count,
  * returns  0 to 7; a refusal leaves the store, the count and repeat as they
  *          were
  * empty    store or event: 1
- * stack    13,880 bytes
+ * stack    13,848 bytes
  */
 PELCHUNDA_MUST_USE PELCHUNDA_NONNULL(3, 6)
 uint8_t pelchunda_take(uint8_t *store, size_t store_len, size_t *count,
@@ -178,7 +178,7 @@ uint8_t pelchunda_take(uint8_t *store, size_t store_len, size_t *count,
  *          the other two
  * returns  as pelchunda_take
  * empty    as pelchunda_take; the tally's refused is raised
- * stack    13,896 bytes
+ * stack    13,864 bytes
  */
 PELCHUNDA_MUST_USE PELCHUNDA_NONNULL(3, 6, 7)
 uint8_t pelchunda_take_counted(uint8_t *store, size_t store_len, size_t *count,
@@ -196,7 +196,7 @@ uint8_t pelchunda_take_counted(uint8_t *store, size_t store_len, size_t *count,
  * returns  0, 1, 2 or 8; a refusal leaves the store, the count and the figures
  *          as they were
  * empty    store: 1; bundle: 8, where the store is good
- * stack    22,168 bytes
+ * stack    22,136 bytes
  */
 PELCHUNDA_MUST_USE PELCHUNDA_NONNULL(3, 6)
 uint8_t pelchunda_take_bundle(uint8_t *store, size_t store_len, size_t *count,
@@ -210,7 +210,7 @@ uint8_t pelchunda_take_bundle(uint8_t *store, size_t store_len, size_t *count,
  *          4,294,967,295. A refused bundle leaves it as it was
  * returns  as pelchunda_take_bundle
  * empty    as pelchunda_take_bundle
- * stack    22,200 bytes
+ * stack    22,168 bytes
  */
 PELCHUNDA_MUST_USE PELCHUNDA_NONNULL(3, 6, 7)
 uint8_t pelchunda_take_bundle_counted(uint8_t *store, size_t store_len, size_t *count,
@@ -224,7 +224,7 @@ uint8_t pelchunda_take_bundle_counted(uint8_t *store, size_t store_len, size_t *
  * place    the event's place: its 192 bytes start at store + 192 * place
  * returns  0, 1, 2 or 9; a refusal leaves place as it was
  * empty    store or id: 1
- * stack    13,800 bytes
+ * stack    13,768 bytes
  */
 PELCHUNDA_MUST_USE PELCHUNDA_NONNULL(6)
 uint8_t pelchunda_look_up(const uint8_t *store, size_t store_len, size_t count,
@@ -288,7 +288,7 @@ uint8_t pelchunda_map(const uint8_t *store, size_t store_len, size_t count,
  * bytes    the length of the bundle
  * returns  0, 1, 2 or 10; a refusal leaves out and bytes as they were
  * empty    store: 1; out: 10, where the store is good
- * stack    19,192 bytes
+ * stack    19,160 bytes
  */
 PELCHUNDA_MUST_USE PELCHUNDA_NONNULL(6)
 uint8_t pelchunda_write_out(const uint8_t *store, size_t store_len, size_t count,
@@ -334,7 +334,7 @@ uint8_t pelchunda_first_event(const uint8_t *bundle, size_t bundle_len,
  * returns  0; 1 where the event has another length; 10 where id is too short.
  *          A refusal leaves id as it was
  * empty    event: 1; id: 10, where the event has its length
- * stack    1,256 bytes
+ * stack    1,240 bytes
  */
 PELCHUNDA_MUST_USE
 uint8_t pelchunda_id(const uint8_t *event, size_t event_len,
@@ -349,7 +349,7 @@ uint8_t pelchunda_id(const uint8_t *event, size_t event_len,
  * returns  0; 1 where events_len is no multiple of 192 or above 49,152; 10
  *          where ids is too short. A refusal leaves ids as it was
  * empty    events: 0, n is 0; ids: 10, where there is an event
- * stack    4,136 bytes
+ * stack    4,104 bytes
  */
 PELCHUNDA_MUST_USE
 uint8_t pelchunda_ids(const uint8_t *events, size_t events_len,
