@@ -4,29 +4,26 @@ use mathlib.Core.List.{List, [], _∷_, _++_}
 use Prim.Native.Nat.{ℕ, zero, suc, _+_, _*_, _<_}
 use native.Mathlib.Omega.{arith}
 use lib.Dec.{ltb}
-use lib.ListN.{length, getD, set, length-set, length-append, List·getD-append}
-use lib.Seq.{getD-set-other, getD-set-same, getD-at, set-append-left, set-at}
+use lib.ListN.{length, getD, set, length-set}
+use lib.Seq.{getD-set-other, getD-set-same, set-append-left, set-at}
 use borrow.Author.Tests.{ltb-true, ltb-false}
 use Rattle.lists.specs.Cases.{byBool}
+use Rattle.lists.specs.Tables.{made-length, made-at}
 use Rattle.sha256.specs.declared.State.{State}
 use Rattle.event_ids.specs.Lanes.{column, stateOf, stateAt, OtherStates}
 
--- a column of n words, whatever the array
+-- a column of n words, whatever the array, and the word j of lane l
+column-more : (l : ℕ) (w : List ℕ) (n : ℕ) → column l (suc n) w ≡ column l n w ++ (getD w (l + n * 4) 0 ∷ [])
+unfolding column
+column-more l w n = refl
+
 pub length-column : (l n : ℕ) (w : List ℕ) → length (column l n w) ≡ n
 unfolding column
-length-column l zero w = refl
-length-column l (suc n) w = length-append (column l n w) _ ∙ simp (length-column l n w) (omega arith)
+length-column l n w = made-length (λ j. getD w (l + j * 4) 0) (λ m. column l m w) refl (column-more l w) n
 
--- the word j of lane l
 pub getD-column : (l n j : ℕ) (w : List ℕ) → j < n → getD (column l n w) j 0 ≡ getD w (l + j * 4) 0
 unfolding column
-getD-column l zero j w h = let z : ⊥ = omega arith in absurd z
-getD-column l (suc n) j w h =
-    byBool (ltb j n)
-    (λ t. let b : j < n = ltb-true j n t in
-    List·getD-append (column l n w) _ 0 j (omega (arith, length-column l n w)) ∙ getD-column l n j w b)
-    (λ f. let e : j ≡ n = omega (arith, ltb-false j n f) in
-    rw e (getD-at (column l n w) (getD w (l + n * 4) 0) [] 0 n (length-column l n w)))
+getD-column l n j w h = made-at (λ i. getD w (l + i * 4) 0) (λ m. column l m w) refl (column-more l w) n j h
 
 -- a store that hits none of the first n words of lane l
 column-apart : (l n i v : ℕ) (w : List ℕ) → ((j : ℕ) → j < n → l + j * 4 ≡ i → ⊥) → column l n (set w i v) ≡ column l n w
