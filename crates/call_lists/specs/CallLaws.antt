@@ -32,6 +32,7 @@ use Rattle.lists.specs.Once.{onceEach}
 use Rattle.lists.specs.Chunks.{length-chunks}
 use Rattle.octets.specs.Octets.{part}
 use Rattle.sha256.specs.Sha256.{sha256}
+use Rattle.cords.specs.Lent.{lentEntry, tableGood}
 use Rattle.event.specs.Answers.{value, refused}
 use Rattle.event.specs.Checks.{refusal}
 use Rattle.event.specs.CheckLaws.{offer-not-2}
@@ -172,8 +173,8 @@ accepted-once c es h = accepted-all (c ∷ []) es (subst Fits same h) ∙ sym sa
 -- ── one call ────────────────────────────────────────────────────────────────────────────────────────────────────────────
 
 -- what a list of calls keeps: check 2 passes, and the creator stands first
-pub record Kept (entry : ℕ → ℕ → ℕ) (creator : Bytes) (m : Lent) : Type 0 where
-  pub good : Good entry (m .store) (m .count)
+pub record Kept (table creator : Bytes) (m : Lent) : Type 0 where
+  pub good : Good table (m .store) (m .count)
   pub creator-first : part (m .store) 0 192 ≡ creator
 
 -- one offer, by whether it passes and whether its id is held
@@ -184,22 +185,22 @@ heldAfter-is (some k) known held e p = refl
 heldAfter-is none true held e p = rw p
 heldAfter-is none false held e p = rw p (byBool (ltb (length held) 256) (λ t. rw t) (λ f. rw f))
 
-module _ (entry : ℕ → ℕ → ℕ) (c : Bytes) where
+module _ (table c : Bytes) where
   abbrev passing : List Bytes → List Bytes
-  passing es = keep (passesBeside entry c) es
+  passing es = keep (passesBeside table c) es
 
   abbrev taken : Lent → Bytes → Lent
-  taken m e = record { store = takeOf entry (m .store) (m .count) e .store; count = takeOf entry (m .store) (m .count) e .count }
+  taken m e = record { store = takeOf table (m .store) (m .count) e .store; count = takeOf table (m .store) (m .count) e .count }
 
-  take-kept : (m : Lent) (e : Bytes) → Kept entry c m → Kept entry c (taken m e)
+  take-kept : (m : Lent) (e : Bytes) → Kept table c m → Kept table c (taken m e)
   take-kept m e k =
       record {
-        good = take-keeps entry (m .store) (m .count) e (k .good);
-        creator-first = take-creator entry (m .store) (m .count) e (k .good) ∙ k .creator-first;
+        good = take-keeps table (m .store) (m .count) e (k .good);
+        creator-first = take-creator table (m .store) (m .count) e (k .good) ∙ k .creator-first;
       }
 
-  take-held : (m : Lent) (e : Bytes) → Kept entry c m → heldBy (taken m e) ≡ accepted (heldBy m) (passing (e ∷ []))
-  take-held m e k = take-places entry s n e ∙ rw answer (heldAfter-is (refusal entry c e) known (heldBy m) e refl)
+  take-held : (m : Lent) (e : Bytes) → Kept table c m → heldBy (taken m e) ≡ accepted (heldBy m) (passing (e ∷ []))
+  take-held m e k = take-places table s n e ∙ rw answer (heldAfter-is (refusal (lentEntry table) c e) known (heldBy m) e refl)
     where
       s : Bytes
       s = m .store
@@ -210,103 +211,103 @@ module _ (entry : ℕ → ℕ → ℕ) (c : Bytes) where
       known : Bool
       known = memberOf (sha256 e) (map sha256 (heldBy m))
 
-      answer : takeAnswer entry s n e ≡ maybe (placed known (length (heldBy m))) refused (refusal entry c e)
+      answer : takeAnswer table s n e ≡ maybe (placed known (length (heldBy m))) refused (refusal (lentEntry table) c e)
       answer =
           let long : placed known n ≡ placed known (length (heldBy m)) = ap (placed known) (sym (length-chunks 192 s n)) in
-          rw (← long, ← k .creator-first) (take-answer-good entry s n e (k .good))
+          rw (← long, ← k .creator-first) (take-answer-good table s n e (k .good))
 
   -- offers one after another
   accepted-more : (held es more : List Bytes)
       → accepted held (passing (es ++ more)) ≡ accepted (accepted held (passing es)) (passing more)
-  accepted-more held es more = rw (keep-append (passesBeside entry c) es more) (accepted-append held (passing es) (passing more))
+  accepted-more held es more = rw (keep-append (passesBeside table c) es more) (accepted-append held (passing es) (passing more))
 
   -- what a call or several leave, and what is held then of what was offered
   abbrev Holds : Lent → Lent → List Bytes → Type 0
-  Holds m after es = Kept entry c after × (heldBy after ≡ accepted (heldBy m) (passing es))
+  Holds m after es = Kept table c after × (heldBy after ≡ accepted (heldBy m) (passing es))
 
   abbrev ofRun : Run → Lent
   ofRun r = record { store = r .store; count = r .count }
 
-  run-held : (r : Run) (es : List Bytes) → Kept entry c (ofRun r) → Holds (ofRun r) (ofRun (runOf entry r es)) es
+  run-held : (r : Run) (es : List Bytes) → Kept table c (ofRun r) → Holds (ofRun r) (ofRun (runOf table r es)) es
   unfolding runOf step accepted
   run-held r [] k = (k, refl)
   run-held r (e ∷ es) k =
-      let rest = run-held (step entry r e) es (take-kept (ofRun r) e k) in
+      let rest = run-held (step table r e) es (take-kept (ofRun r) e k) in
       let one = ap (λ (l : List Bytes). accepted l (passing es)) (take-held (ofRun r) e k) in
       (rest .0, rest .1 ∙ one ∙ sym (accepted-more (heldBy (ofRun r)) (e ∷ []) es))
 
-  call-held : (m : Lent) (call : Call) → Kept entry c m → Holds m (afterCall entry m call) (offersOf call)
+  call-held : (m : Lent) (call : Call) → Kept table c m → Holds m (afterCall table m call) (offersOf call)
   unfolding afterCall offersOf accepted
   call-held m (single e) k = (take-kept m e k, take-held m e k)
   call-held m (bundle b) k =
-      rw (bundle-good entry (m .store) (m .count) b (k .good))
+      rw (bundle-good table (m .store) (m .count) b (k .good))
       (byBool (bundleGood b) (λ t. rw t (run-held (freshRun (m .store) (m .count)) (eventsIn b) k)) (λ f. rw f (k, refl)))
 
   -- ── a list of calls ─────────────────────────────────────────────────────────────────────────────────────────────────────
 
-  calls-held : (m : Lent) (calls : List Call) → Kept entry c m → Holds m (afterCalls entry m calls) (offers calls)
+  calls-held : (m : Lent) (calls : List Call) → Kept table c m → Holds m (afterCalls table m calls) (offers calls)
   unfolding afterCalls offers accepted
   calls-held m [] k = (k, refl)
   calls-held m (call ∷ calls) k =
       let one = call-held m call k in
-      let rest = calls-held (afterCall entry m call) calls (one .0) in
+      let rest = calls-held (afterCall table m call) calls (one .0) in
       let next = ap (λ (l : List Bytes). accepted l (passing (offers calls))) (one .1) in
       (rest .0, rest .1 ∙ next ∙ sym (accepted-more (heldBy m) (offersOf call) (offers calls)))
 
   -- the single take of an event that passes and fits beside those held is answered "stored"
-  stored-next : (m : Lent) (e : Bytes) (es : List Bytes) → Kept entry c m → Fits (heldBy m ++ (e ∷ es)) → refusal entry c e ≡ none
-      → takeAnswer entry (m .store) (m .count) e ≡ value stored
+  stored-next : (m : Lent) (e : Bytes) (es : List Bytes) → Kept table c m → Fits (heldBy m ++ (e ∷ es)) → refusal (lentEntry table) c e ≡ none
+      → takeAnswer table (m .store) (m .count) e ≡ value stored
   stored-next m e es k h r =
       let a = length-append (heldBy m) (e ∷ es) in
       let b = length-chunks 192 (m .store) (m .count) in
-      stores← entry (m .store) (m .count) e
+      stores← table (m .store) (m .count) e
       (record {
         good = k .good;
-        passes = ap (λ (x : Bytes). refusal entry x e) (k .creator-first) ∙ r;
+        passes = ap (λ (x : Bytes). refusal (lentEntry table) x e) (k .creator-first) ∙ r;
         new = id-new (heldBy m) e es (h .distinct);
         room = omega (arith, h .at-most);
       })
 
   -- the single takes are all answered "stored", and what they offer is held, last
   pub record AllStored (m : Lent) (es : List Bytes) : Type 0 where
-    pub each : answers entry m (map single es) ≡ map (λ e. ofTake (value stored)) es
-    pub behind : heldBy (afterCalls entry m (map single es)) ≡ heldBy m ++ es
+    pub each : answers table m (map single es) ≡ map (λ e. ofTake (value stored)) es
+    pub behind : heldBy (afterCalls table m (map single es)) ≡ heldBy m ++ es
 
-  stored-all : (m : Lent) (es : List Bytes) → Kept entry c m → Fits (heldBy m ++ es)
-      → ((e : Bytes) → List·Memᴰ e es → refusal entry c e ≡ none) → AllStored m es
+  stored-all : (m : Lent) (es : List Bytes) → Kept table c m → Fits (heldBy m ++ es)
+      → ((e : Bytes) → List·Memᴰ e es → refusal (lentEntry table) c e ≡ none) → AllStored m es
   unfolding answers answerOfCall afterCalls afterCall
   stored-all m [] k h r = record { each = refl; behind = sym (append-nil (heldBy m)) }
   stored-all m (e ∷ es) k h r =
       let answer = stored-next m e es k h (r e (List·Memᴰ·head refl)) in
-      let last = ap (λ (l : List Bytes). l ++ es) (take-stored entry (m .store) (m .count) e answer) in
+      let last = ap (λ (l : List Bytes). l ++ es) (take-stored table (m .store) (m .count) e answer) in
       let whole : heldBy (taken m e) ++ es ≡ heldBy m ++ (e ∷ es) = last ∙ append-snoc (heldBy m) e es in
       let rest = stored-all (taken m e) es (take-kept m e k) (subst Fits (sym whole) h) (λ x i. r x (List·Memᴰ·tail i)) in
       record {
-        each = ap₂ _∷_ (ap ofTake (take-answers entry (m .store) (m .count) e ∙ answer)) (rest .each);
+        each = ap₂ _∷_ (ap ofTake (take-answers table (m .store) (m .count) e ∙ answer)) (rest .each);
         behind = rest .behind ∙ whole;
       }
 
 -- ── refusals ────────────────────────────────────────────────────────────────────────────────────────────────────────────
 
 -- in a store that passes check 2, a bundle's refusal is read off its bytes: 8 exactly where check 8 fails
-pub bundle-number : (entry : ℕ → ℕ → ℕ) (m : Lent) (b : Bytes) → Good entry (m .store) (m .count)
-    → numberOfCall (answerOfCall entry m (bundle b)) ≡ cond (bundleGood b) none (some 8)
+pub bundle-number : (table : Bytes) (m : Lent) (b : Bytes) → Good table (m .store) (m .count)
+    → numberOfCall (answerOfCall table m (bundle b)) ≡ cond (bundleGood b) none (some 8)
 unfolding answerOfCall
-bundle-number entry m b g = rw (bundle-good entry (m .store) (m .count) b g) (byBool (bundleGood b) (λ t. rw t) (λ f. rw f))
+bundle-number table m b g = rw (bundle-good table (m .store) (m .count) b g) (byBool (bundleGood b) (λ t. rw t) (λ f. rw f))
 
 two : (k : ℕ) → some k ≡ some 2 → k ≡ 2
 two k p = Option·some-injective k 2 p
 
 -- and no call is refused by 2
-call-not-2 : (entry : ℕ → ℕ → ℕ) (m : Lent) (call : Call) → Good entry (m .store) (m .count)
-    → numberOfCall (answerOfCall entry m call) ≡ some 2
+call-not-2 : (table : Bytes) (m : Lent) (call : Call) → Good table (m .store) (m .count)
+    → numberOfCall (answerOfCall table m call) ≡ some 2
     → ⊥
 unfolding answerOfCall
-call-not-2 entry m (single e) g p =
+call-not-2 table m (single e) g p =
     let c = part (m .store) 0 192 in
     let known = memberOf (sha256 e) (map sha256 (heldBy m)) in
-    let answer = take-answers entry (m .store) (m .count) e ∙ take-answer-good entry (m .store) (m .count) e g in
-    number (refusal entry c e) known (offer-not-2 entry c e) (sym (ap numberIn answer) ∙ p)
+    let answer = take-answers table (m .store) (m .count) e ∙ take-answer-good table (m .store) (m .count) e g in
+    number (refusal (lentEntry table) c e) known (offer-not-2 (lentEntry table) c e) (sym (ap numberIn answer) ∙ p)
   where
     number : (o : Option ℕ) (known : Bool) → (o ≡ some 2 → ⊥)
         → numberIn (maybe (placed known (m .count)) refused o) ≡ some 2
@@ -315,101 +316,101 @@ call-not-2 entry m (single e) g p =
     number none true h q = clashOption none 2 refl q
     number none false h q =
         byBool (ltb (m .count) 256) (λ t. clashOption none 2 refl (rw t at q)) (λ f. let z = two 7 (rw f at q) in omega arith)
-call-not-2 entry m (bundle b) g p =
+call-not-2 table m (bundle b) g p =
     byBool (bundleGood b)
-    (λ t. clashOption none 2 refl (sym (bundle-number entry m b g ∙ rw t) ∙ p))
-    (λ f. let z = two 8 (sym (bundle-number entry m b g ∙ rw f) ∙ p) in omega arith)
+    (λ t. clashOption none 2 refl (sym (bundle-number table m b g ∙ rw t) ∙ p))
+    (λ f. let z = two 8 (sym (bundle-number table m b g ∙ rw f) ∙ p) in omega arith)
 
-answers-not-2 : (entry : ℕ → ℕ → ℕ) (c : Bytes) (m : Lent) (calls : List Call) → Kept entry c m → (a : CallAnswer)
-    → List·Memᴰ a (answers entry m calls)
+answers-not-2 : (table c : Bytes) (m : Lent) (calls : List Call) → Kept table c m → (a : CallAnswer)
+    → List·Memᴰ a (answers table m calls)
     → numberOfCall a ≡ some 2 → ⊥
 unfolding answers
-answers-not-2 entry c m [] k a i p = List·Memᴰ·not-nil i
-answers-not-2 entry c m (call ∷ calls) k a i p =
+answers-not-2 table c m [] k a i p = List·Memᴰ·not-nil i
+answers-not-2 table c m (call ∷ calls) k a i p =
     ⊎-elim
-    (λ q. call-not-2 entry m call (k .good) (ap numberOfCall (sym q) ∙ p))
-    (λ j. answers-not-2 entry c (afterCall entry m call) calls (call-held entry c m call k .0) a j p)
+    (λ q. call-not-2 table m call (k .good) (ap numberOfCall (sym q) ∙ p))
+    (λ j. answers-not-2 table c (afterCall table m call) calls (call-held table c m call k .0) a j p)
     (List·Memᴰ·cases-cons i)
 
 -- the answers of a list are those of its beginning, then those of its end from what the beginning left
-pub answers-append : (entry : ℕ → ℕ → ℕ) (m : Lent) (before calls : List Call)
-    → answers entry m (before ++ calls) ≡ answers entry m before ++ answers entry (afterCalls entry m before) calls
+pub answers-append : (table : Bytes) (m : Lent) (before calls : List Call)
+    → answers table m (before ++ calls) ≡ answers table m before ++ answers table (afterCalls table m before) calls
 unfolding answers afterCalls
-answers-append entry m [] calls = refl
-answers-append entry m (call ∷ before) calls =
-    ap (λ (l : List CallAnswer). answerOfCall entry m call ∷ l) (answers-append entry (afterCall entry m call) before calls)
+answers-append table m [] calls = refl
+answers-append table m (call ∷ before) calls =
+    ap (λ (l : List CallAnswer). answerOfCall table m call ∷ l) (answers-append table (afterCall table m call) before calls)
 
 -- ── from a start ────────────────────────────────────────────────────────────────────────────────────────────────────────
 
-module _ (entry : ℕ → ℕ → ℕ) (buffer creator : Bytes) (starts : startOf buffer creator .answer ≡ value stored) where
+module _ (table buffer creator : Bytes) (starts : startOf table buffer creator .answer ≡ value stored) where
   -- what a list of calls leaves
   abbrev left : List Call → Lent
-  left calls = afterCalls entry (started buffer creator) calls
+  left calls = afterCalls table (started table buffer creator) calls
 
-  start-kept : Kept entry creator (started buffer creator)
-  start-kept = record { good = start-good entry buffer creator starts; creator-first = start-creator buffer creator starts }
+  start-kept : Kept table creator (started table buffer creator)
+  start-kept = record { good = start-good table buffer creator starts; creator-first = start-creator table buffer creator starts }
 
   -- a store that passes check 2
-  pub calls-good : (calls : List Call) → Good entry (left calls .store) (left calls .count)
-  calls-good calls = calls-held entry creator (started buffer creator) calls start-kept .0 .good
+  pub calls-good : (calls : List Call) → Good table (left calls .store) (left calls .count)
+  calls-good calls = calls-held table creator (started table buffer creator) calls start-kept .0 .good
 
   -- what is held then: the creator, and each counted event whose id was new while fewer than 256 were held
-  pub calls-accepted : (calls : List Call) → heldBy (left calls) ≡ accepted (creator ∷ []) (countedEvents entry creator calls)
+  pub calls-accepted : (calls : List Call) → heldBy (left calls) ≡ accepted (creator ∷ []) (countedEvents table creator calls)
   unfolding countedEvents
   calls-accepted calls =
-      calls-held entry creator (started buffer creator) calls start-kept .1
-      ∙ ap (λ (l : List Bytes). accepted l (countedEvents entry creator calls)) (start-held buffer creator starts)
+      calls-held table creator (started table buffer creator) calls start-kept .1
+      ∙ ap (λ (l : List Bytes). accepted l (countedEvents table creator calls)) (start-held table buffer creator starts)
 
   -- where the set has at most 256 events and no two share an id, all of it is held: the creator, then each counted event once,
   -- in order of arrival
-  pub set-held : (calls : List Call) → Fits (setOf entry creator calls) → heldBy (left calls) ≡ setOf entry creator calls
-  set-held calls h = calls-accepted calls ∙ accepted-once creator (countedEvents entry creator calls) h
+  pub set-held : (calls : List Call) → Fits (setOf table creator calls) → heldBy (left calls) ≡ setOf table creator calls
+  set-held calls h = calls-accepted calls ∙ accepted-once creator (countedEvents table creator calls) h
 
   -- no call of a list is refused by 2
-  pub never-2 : (calls : List Call) (a : CallAnswer) → List·Memᴰ a (answers entry (started buffer creator) calls)
+  pub never-2 : (calls : List Call) (a : CallAnswer) → List·Memᴰ a (answers table (started table buffer creator) calls)
       → numberOfCall a ≡ some 2
       → ⊥
-  never-2 calls = answers-not-2 entry creator (started buffer creator) calls start-kept
+  never-2 calls = answers-not-2 table creator (started table buffer creator) calls start-kept
 
   -- a bundle of a list is refused by 8 or not at all, by its bytes alone
   pub bundle-in-list : (before : List Call) (b : Bytes)
-      → numberOfCall (answerOfCall entry (left before) (bundle b)) ≡ cond (bundleGood b) none (some 8)
-  bundle-in-list before b = bundle-number entry (left before) b (calls-good before)
+      → numberOfCall (answerOfCall table (left before) (bundle b)) ≡ cond (bundleGood b) none (some 8)
+  bundle-in-list before b = bundle-number table (left before) b (calls-good before)
 
   -- at most 255 further events that pass, all ids distinct: their single takes are all answered "stored", and all are held
   pub all-stored : (es : List Bytes) → length es ≤ 255 → Distinct sha256 (creator ∷ es)
-      → ((e : Bytes) → List·Memᴰ e es → refusal entry creator e ≡ none)
-      → (answers entry (started buffer creator) (map single es) ≡ map (λ e. ofTake (value stored)) es)
+      → ((e : Bytes) → List·Memᴰ e es → refusal (lentEntry table) creator e ≡ none)
+      → (answers table (started table buffer creator) (map single es) ≡ map (λ e. ofTake (value stored)) es)
       × (heldBy (left (map single es)) ≡ creator ∷ es)
   all-stored es h d r =
       let fits : Fits (creator ∷ es) = record { at-most = omega arith; distinct = d } in
-      let whole = ap (λ (l : List Bytes). l ++ es) (start-held buffer creator starts) in
-      let all = stored-all entry creator (started buffer creator) es start-kept (subst Fits (sym whole) fits) r in
+      let whole = ap (λ (l : List Bytes). l ++ es) (start-held table buffer creator starts) in
+      let all = stored-all table creator (started table buffer creator) es start-kept (subst Fits (sym whole) fits) r in
       (all .each, all .behind ∙ whole)
 
 -- ── check 2 passes what lists of calls leave, and nothing else ──────────────────────────────────────────────────────────
 
 -- the held places and the count are those that a list of calls leaves
-pub record LeftBy (entry : ℕ → ℕ → ℕ) (m : Lent) (buffer creator : Bytes) (calls : List Call) : Type 0 where
-  pub starts : startOf buffer creator .answer ≡ value stored
-  pub same-held : heldBy (afterCalls entry (started buffer creator) calls) ≡ heldBy m
-  pub same-count : afterCalls entry (started buffer creator) calls .count ≡ m .count
+pub record LeftBy (table : Bytes) (m : Lent) (buffer creator : Bytes) (calls : List Call) : Type 0 where
+  pub starts : startOf table buffer creator .answer ≡ value stored
+  pub same-held : heldBy (afterCalls table (started table buffer creator) calls) ≡ heldBy m
+  pub same-count : afterCalls table (started table buffer creator) calls .count ≡ m .count
 
-pub left-passes : (entry : ℕ → ℕ → ℕ) (m : Lent) (buffer creator : Bytes) (calls : List Call)
-    → LeftBy entry m buffer creator calls
-    → storeGood entry (m .store) (m .count) ≡ true
+pub left-passes : (table : Bytes) (m : Lent) (buffer creator : Bytes) (calls : List Call)
+    → LeftBy table m buffer creator calls
+    → storeGood (lentEntry table) (m .store) (m .count) ≡ true
 unfolding storeGood
-left-passes entry m buffer creator calls l =
-    rw (← l .same-held, ← l .same-count) (calls-good entry buffer creator (l .starts) calls .passes)
+left-passes table m buffer creator calls l =
+    rw (← l .same-held, ← l .same-count) (calls-good table buffer creator (l .starts) calls .passes)
 
 -- the takes of the places behind the creator, one by one, from a start with it
 abbrev pub takesOf : Lent → List Call
 takesOf m = map single (drop 1 (heldBy m))
 
-pub passes-left : (entry : ℕ → ℕ → ℕ) (m : Lent) (buffer : Bytes) → length (m .store) ≡ 49152
-    → storeGood entry (m .store) (m .count) ≡ true
-    → length buffer ≡ 49152 → LeftBy entry m buffer (part (m .store) 0 192) (takesOf m)
-passes-left entry m buffer h t l = record { starts = starts; same-held = held; same-count = count }
+pub passes-left : (table : Bytes) (m : Lent) (buffer : Bytes) → tableGood table ≡ true → length (m .store) ≡ 49152
+    → storeGood (lentEntry table) (m .store) (m .count) ≡ true
+    → length buffer ≡ 49152 → LeftBy table m buffer (part (m .store) 0 192) (takesOf m)
+passes-left table m buffer lent h t l = record { starts = starts; same-held = held; same-count = count }
   where
     c : Bytes
     c = part (m .store) 0 192
@@ -417,30 +418,30 @@ passes-left entry m buffer h t l = record { starts = starts; same-held = held; s
     others : List Bytes
     others = drop 1 (heldBy m)
 
-    bounds : Checked entry (m .store) (m .count)
-    bounds = checked→ entry (m .store) (m .count) t
+    bounds : Checked (lentEntry table) (m .store) (m .count)
+    bounds = checked→ (lentEntry table) (m .store) (m .count) t
 
     first : heldBy m ≡ c ∷ others
     first = places-first (m .store) (m .count) (bounds .at-least)
 
-    parts : Held entry c others
-    parts = checked-held entry (m .store) (m .count) bounds
+    parts : Held (lentEntry table) c others
+    parts = checked-held (lentEntry table) (m .store) (m .count) bounds
 
-    starts : startOf buffer c .answer ≡ value stored
+    starts : startOf table buffer c .answer ≡ value stored
     starts =
         let create = creator→ c (parts .creator-good) in
         let long = length-take-le 192 (m .store) (omega arith) in
-        let good = starts← buffer c (record { size = l; long = long; fields = create .1; create = create .0 }) in
+        let good = starts← table buffer c (record { size = l; long = long; lent = lent; fields = create .1; create = create .0 }) in
         ap (λ (x : Left Placed). x .answer) good
 
     most : length others ≤ 255
     most = let a = length-chunks 192 (m .store) (m .count) in let b = ap length first in omega (arith, bounds .at-most)
 
-    passes : (e : Bytes) → List·Memᴰ e others → refusal entry c e ≡ none
-    passes e i = later→ entry c e (parts .others-good e i) .1
+    passes : (e : Bytes) → List·Memᴰ e others → refusal (lentEntry table) c e ≡ none
+    passes e i = later→ (lentEntry table) c e (parts .others-good e i) .1
 
-    held : heldBy (afterCalls entry (started buffer c) (takesOf m)) ≡ heldBy m
-    held = all-stored entry buffer c starts others most (parts .distinct) passes .1 ∙ sym first
+    held : heldBy (afterCalls table (started table buffer c) (takesOf m)) ≡ heldBy m
+    held = all-stored table buffer c starts others most (parts .distinct) passes .1 ∙ sym first
 
-    count : afterCalls entry (started buffer c) (takesOf m) .count ≡ m .count
+    count : afterCalls table (started table buffer c) (takesOf m) .count ≡ m .count
     count = sym (length-chunks 192 _ _) ∙ ap length held ∙ length-chunks 192 (m .store) (m .count)

@@ -12,7 +12,9 @@ use Rattle.lists.specs.Bytes.{Bytes, sameBytes, same←}
 use Rattle.lists.specs.Tests.{SameMembers}
 use Rattle.sha256.specs.Sha256.{sha256}
 use Rattle.sha256.specs.Vectors.{sha256Computed}
-use Rattle.cords.specs.Cords.{entryOf, cordLimit}
+use Rattle.cords.specs.Cords.{entryOf}
+use Rattle.cords.specs.Lent.{lentEntry}
+use Rattle.cords.specs.DocumentTable.{lengthBytes, ruledLengths, documentTable, document-good}
 use Rattle.event.specs.Answers.{value}
 use Rattle.event.specs.Examples.{fieldsComputed}
 use Rattle.event.specs.Contents.{bodyOf, cordAt}
@@ -33,22 +35,23 @@ use Rattle.claims.proofs.Third.{third-demand}
 
 -- ── the premises ────────────────────────────────────────────────────────────────────────────────────────────────────────
 
-starts : (buffer : Bytes) → length buffer ≡ 49152 → startOf buffer creator .answer ≡ value stored
+starts : (buffer : Bytes) → length buffer ≡ 49152 → startOf documentTable buffer creator .answer ≡ value stored
 unfolding creator fieldsComputed
-starts buffer h = ap (λ x. x .answer) (starts← buffer creator (record { long = refl; size = h; fields = refl; create = refl }))
+starts buffer h = ap (λ x. x .answer) (starts← documentTable buffer creator (record { size = h; long = refl; lent = document-good; fields = refl; create = refl }))
 
 -- the two ids differ
 apart : sameBytes (sha256 joining) (sha256 creator) ≡ false
 unfolding creator joining sameBytes sha256Computed
 apart = refl
 
-singly-counts : counts creator singly ≡ both
-unfolding creator joining countedEvents offers offersOf bundleGood refusal fieldsComputed sameBytes bodyOf cordGood cordLimit entryOf
+singly-counts : counts documentTable creator singly ≡ both
+unfolding creator joining countedEvents offers offersOf bundleGood refusal fieldsComputed sameBytes bodyOf cordGood lentEntry
+    documentTable lengthBytes ruledLengths entryOf
 singly-counts = refl
 
-bundled-counts : counts creator bundled ≡ creator ∷ joining ∷ creator ∷ []
-unfolding creator joining countedEvents offers offersOf bundleGood refusal fieldsComputed sameBytes bodyOf cordGood cordLimit entryOf
-    packed trailer bytes16 bytes32 flatten
+bundled-counts : counts documentTable creator bundled ≡ creator ∷ joining ∷ creator ∷ []
+unfolding creator joining countedEvents offers offersOf bundleGood refusal fieldsComputed sameBytes bodyOf cordGood lentEntry
+    documentTable lengthBytes ruledLengths entryOf packed trailer bytes16 bytes32 flatten
 bundled-counts = refl
 
 -- a member that comes twice is a member
@@ -78,7 +81,7 @@ with-repeat a b = (there, back)
         (List·Memᴰ·cases-cons n))
         (List·Memᴰ·cases-cons m)
 
-pub met : Premises creator both singly bundled
+pub met : Premises documentTable creator both singly bundled
 met =
     record {
       at-most = omega arith;
@@ -101,8 +104,8 @@ met =
 
 -- ── what follows ────────────────────────────────────────────────────────────────────────────────────────────────────────
 
-agree : Agree creator both singly bundled
-agree = third-demand creator both singly bundled met
+agree : Agree documentTable creator both singly bundled
+agree = third-demand documentTable creator both singly bundled met
 
 figures : figuresOf (machine (setView both)) ≡ record { rows = 1; ended = 0; joins = 1 }
 unfolding creator joining mapComputed sha256Computed
@@ -116,7 +119,7 @@ bytes : mapBytes (setView both) ≡ 0 ∷ 3 ∷ 0 ∷ 7 ∷ 4 ∷ 5 ∷ 0 ∷ 12
 unfolding mapBytes mapRow bytes16 flatten
 bytes = rw rows
 
-shows : (m : Lent) → Tells both m → ShowsCord m
+shows : (m : Lent) → Tells documentTable both m → ShowsCord m
 shows m tells out h = tells .map-told out ∙ rw (figures, bytes, le-leb 8 (length out) h)
 
 pub witness : Witness

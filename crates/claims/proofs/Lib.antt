@@ -6,3 +6,4 @@ pub mod Trip
 pub mod Sums
 pub mod Struck
 pub mod Case
+pub mod Document

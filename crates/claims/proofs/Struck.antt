@@ -11,6 +11,7 @@ use borrow.Author.Tests.{le-leb}
 use Rattle.lists.specs.Cases.{maybe, isSome}
 use Rattle.lists.specs.Bytes.{Bytes}
 use Rattle.lists.specs.Tests.{all←}
+use Rattle.cords.specs.Lent.{lentEntry, tableGood}
 use Rattle.event.specs.Answers.{refused, value, Test, must, firstFailed}
 use Rattle.event.specs.CheckLaws.{passed→}
 use Rattle.model.specs.Events.{Id}
@@ -21,7 +22,7 @@ use Rattle.model.specs.Map.{machine}
 use Rattle.model.specs.Rows.{orderBytes, mapBytes, writtenBytes}
 use Rattle.model.specs.Store.{heldIn, storeGood}
 use Rattle.model.specs.StoreLaws.{held-length, checked→}
-use Rattle.store.specs.LookUp.{storeLong}
+use Rattle.store.specs.LookUp.{storeLong, lentTests}
 use Rattle.reports.specs.Reports.{heldView, outputTests, writeTests, verdictTests, report, figuresOf, orderOf, mapOf, writtenOf, verdictOf}
 use Rattle.claims.specs.Struck.{
   HeightsLow,
@@ -53,42 +54,43 @@ last-goes [] n b h = rw (h refl)
 last-goes (must k true ∷ tests) n b h = last-goes tests n b h
 last-goes (must k false ∷ tests) n b h = refl
 
-module _ (entry : ℕ → ℕ → ℕ) (store : Bytes) (count : ℕ) where
+module _ (table store : Bytes) (count : ℕ) where
   abbrev v : View
   v = heldView store count
 
-  passes-11 : storeGood entry store count ≡ true → heightsLow v ≡ true
+  passes-11 : storeGood (lentEntry table) store count ≡ true → heightsLow v ≡ true
   passes-11 good =
       all← (λ e. leb (maybe 0 (λ h. h) (height v (e .ident))) 255) (v .byId)
       (λ e m. le-leb _ 255 (at-most (e .ident) (height v (e .ident)) refl))
     where
       at-most : (i : Id) (o : Option ℕ) → height v i ≡ o → maybe 0 (λ h. h) o ≤ 255
       at-most i none q = omega arith
-      at-most i (some h) q = low entry store count good i h q
+      at-most i (some h) q = low (lentEntry table) store count good i h q
 
-  -- where the tests that begin with 1 and 2 pass, so does 11
-  after-2 : (lengths : Bool) (own : List Test) → firstFailed (must 1 lengths ∷ must 2 (storeGood entry store count) ∷ own) ≡ none
+  -- where the tests that begin with 1, 12 and 2 pass, so does 11
+  after-2 : (lengths : Bool) (own : List Test) → firstFailed (must 1 lengths ∷ (lentTests table store count ++ own)) ≡ none
       → heightsLow v ≡ true
   after-2 lengths own p =
-      let one = passed→ 1 lengths (must 2 (storeGood entry store count) ∷ own) p in
-      passes-11 (passed→ 2 (storeGood entry store count) own (one .1) .0)
+      let one = passed→ 1 lengths (lentTests table store count ++ own) p in
+      let twelve = passed→ 12 (tableGood table) (must 2 (storeGood (lentEntry table) store count) ∷ own) (one .1) in
+      passes-11 (passed→ 2 (storeGood (lentEntry table) store count) own (twelve .1) .0)
 
   write-same : (bytes out : Bytes)
-      → firstFailed (writeTests entry store count bytes out) ≡ firstFailed (writeTestsBefore entry store count bytes out)
+      → firstFailed (writeTests table store count bytes out) ≡ firstFailed (writeTestsBefore table store count bytes out)
   write-same bytes out =
-      last-goes (writeTests entry store count bytes out) 11 (heightsLow v) (after-2 (storeLong store) (outputTests bytes out))
+      last-goes (writeTests table store count bytes out) 11 (heightsLow v) (after-2 (storeLong store) (outputTests bytes out))
 
   verdict-same : (id : Bytes)
-      → firstFailed (verdictTests entry store count id) ≡ firstFailed (verdictTestsBefore entry store count id)
+      → firstFailed (verdictTests table store count id) ≡ firstFailed (verdictTestsBefore table store count id)
   verdict-same id =
-      last-goes (verdictTests entry store count id) 11 (heightsLow v)
+      last-goes (verdictTests table store count id) 11 (heightsLow v)
       (after-2 (storeLong store && eqb (length id) 32) (must 9 (isSome (v .find id)) ∷ []))
 
   report-same : {A : Type 0} (a : A) (bytes out : Bytes)
-      → report (firstFailed (writeTests entry store count bytes out)) a bytes out ≡ reportBefore entry store count a bytes out
+      → report (firstFailed (writeTests table store count bytes out)) a bytes out ≡ reportBefore table store count a bytes out
   report-same a bytes out = ap (λ (o : Option ℕ). report o a bytes out) (write-same bytes out)
 
-  answers-kept : AnswersKept entry store count v
+  answers-kept : AnswersKept table store count v
   unfolding orderOf verdictOf mapOf writtenOf
   answers-kept =
       record {
@@ -101,4 +103,4 @@ module _ (entry : ℕ → ℕ → ℕ) (store : Bytes) (count : ℕ) where
       }
 
 pub every-answer-kept : EveryAnswerKept
-every-answer-kept entry store count = answers-kept entry store count
+every-answer-kept table store count = answers-kept table store count

@@ -11,8 +11,8 @@ use Rattle.claims.specs.ThirdDemand.{Equal, leaves, ThirdDemand}
 use Rattle.claims.proofs.Units.{ids-distinct, unit-tells}
 
 -- two units that tell one set
-both-tell : {s : List Bytes} (m n : Lent) → Tells s m → Tells s n → Equal m n
-both-tell m n a b =
+both-tell : (table : Bytes) {s : List Bytes} (m n : Lent) → Tells table s m → Tells table s n → Equal table m n
+both-tell table m n a b =
     record {
       same-order = λ out. a .order-told out ∙ sym (b .order-told out);
       same-verdicts = λ id long. a .verdict-told id long ∙ sym (b .verdict-told id long);
@@ -21,12 +21,12 @@ both-tell m n a b =
     }
 
 pub third-demand : ThirdDemand
-third-demand creator s u w h =
+third-demand table creator s u w h =
     let fits : Fits s = record { at-most = omega (arith, h .at-most); distinct = h .distinct } in
-    let one = unit-tells creator s fits u (h .first) in
-    let two = unit-tells creator s fits w (h .second) in
+    let one = unit-tells table creator s fits u (h .first) in
+    let two = unit-tells table creator s fits w (h .second) in
     record {
-      equal = both-tell (leaves creator u) (leaves creator w) one two;
+      equal = both-tell table (leaves table creator u) (leaves table creator w) one two;
       first-tells = one;
       second-tells = two;
       each-cord = row-by (map eventOf s) (ids-distinct s (h .distinct));

@@ -15,7 +15,7 @@ use Rattle.lists.specs.Tests.{keep-all}
 use Rattle.lists.specs.Counting.{distinct-length}
 use Rattle.lists.specs.Chunks.{AllOfLength, length-chunks}
 use Rattle.sha256.specs.Sha256.{sha256}
-use Rattle.cords.specs.Cords.{cordLimit}
+use Rattle.cords.specs.Lent.{lentEntry}
 use Rattle.event.specs.Answers.{value}
 use Rattle.event.specs.Fields.{kindOf, roomOf, fieldsGood}
 use Rattle.event.specs.Contents.{bodyOf}
@@ -47,7 +47,7 @@ creator-passes entry c long kind fields =
 
 -- ── a store that passes check 2 ─────────────────────────────────────────────────────────────────────────────────────────
 
-module _ (m : Lent) (g : Good cordLimit (m .store) (m .count)) where
+module _ (table : Bytes) (m : Lent) (g : Good table (m .store) (m .count)) where
   abbrev c : Bytes
   c = creatorOf m
 
@@ -57,28 +57,28 @@ module _ (m : Lent) (g : Good cordLimit (m .store) (m .count)) where
   abbrev bytes : Bytes
   bytes = writtenBytes (setView s)
 
-  bounds : Checked cordLimit (m .store) (m .count)
-  bounds = checked→ cordLimit (m .store) (m .count) (g .passes)
+  bounds : Checked (lentEntry table) (m .store) (m .count)
+  bounds = checked→ (lentEntry table) (m .store) (m .count) (g .passes)
 
   first : s ≡ c ∷ drop 1 s
   first = places-first (m .store) (m .count) (bounds .at-least)
 
-  held : Held cordLimit c (drop 1 s)
-  held = checked-held cordLimit (m .store) (m .count) bounds
+  held : Held (lentEntry table) c (drop 1 s)
+  held = checked-held (lentEntry table) (m .store) (m .count) bounds
 
   c-long : length c ≡ 192
   c-long = length-take-le 192 (m .store) (omega (arith, g .size))
 
-  all-pass : (e : Bytes) → List·Memᴰ e s → refusal cordLimit c e ≡ none
+  all-pass : (e : Bytes) → List·Memᴰ e s → refusal (lentEntry table) c e ≡ none
   all-pass e i =
       let create = creator→ c (held .creator-good) in
       ⊎-elim
-      (λ q. ap (refusal cordLimit c) q ∙ creator-passes cordLimit c c-long (create .0) (create .1))
-      (λ j. later→ cordLimit c e (held .others-good e j) .1)
+      (λ q. ap (refusal (lentEntry table) c) q ∙ creator-passes (lentEntry table) c c-long (create .0) (create .1))
+      (λ j. later→ (lentEntry table) c e (held .others-good e j) .1)
       (List·Memᴰ·cases-cons (subst (List·Memᴰ e) first i))
 
   all-long : AllOfLength 192 s
-  all-long e i = passes→ cordLimit c e (all-pass e i) .long
+  all-long e i = passes→ (lentEntry table) c e (all-pass e i) .long
 
   number : length s ≡ m .count
   number = length-chunks 192 (m .store) (m .count)
@@ -87,36 +87,36 @@ module _ (m : Lent) (g : Good cordLimit (m .store) (m .count)) where
   fits =
       record {
         at-most = omega (arith, number, bounds .at-most);
-        distinct = held-distinct cordLimit (m .store) (m .count) (g .passes);
+        distinct = held-distinct (lentEntry table) (m .store) (m .count) (g .passes);
       }
 
   size-is : length bytes ≡ writtenSize m
   size-is = written-size s all-long ∙ ap (λ (n : ℕ). 192 * n + 12) number
 
   -- a unit that tells this set writes the bundle
-  wrote : (n : Lent) → Tells s n → (out : Bytes) → writtenSize m ≤ length out
-      → writtenOf cordLimit (n .store) (n .count) out ≡ record { answer = value (writtenSize m); out = overwritten bytes out }
+  wrote : (n : Lent) → Tells table s n → (out : Bytes) → writtenSize m ≤ length out
+      → writtenOf table (n .store) (n .count) out ≡ record { answer = value (writtenSize m); out = overwritten bytes out }
   wrote n t out h =
       t .written-told out
       ∙ rw (le-leb (length bytes) (length out) (omega (arith, size-is)))
       (ap (λ (k : ℕ). record { answer = value k; out = overwritten bytes out }) size-is)
 
-  wrote-bytes : (n : Lent) → Tells s n → (out : Bytes) → writtenSize m ≤ length out → writtenBy n out ≡ bytes
+  wrote-bytes : (n : Lent) → Tells table s n → (out : Bytes) → writtenSize m ≤ length out → writtenBy table n out ≡ bytes
   unfolding overwritten
   wrote-bytes n t out h = rw (wrote n t out h) (take-at bytes (drop (length bytes) out) (writtenSize m) size-is)
 
-  self : Tells s m
+  self : Tells table s m
   unfolding heldIn
-  self = tells m g s refl
+  self = tells table m g s refl
 
   -- ── the fresh unit ──────────────────────────────────────────────────────────────────────────────────────────────────────
 
   module _ (buffer : Bytes) (size : length buffer ≡ 49152) where
-    start-answers : startOf buffer c .answer ≡ value stored
+    start-answers : startOf table buffer c .answer ≡ value stored
     start-answers =
         let create = creator→ c (held .creator-good) in
         ap (λ (x : Left Placed). x .answer)
-        (starts← buffer c (record { size = size; long = c-long; fields = create .1; create = create .0 }))
+        (starts← table buffer c (record { size = size; lent = g .lent; long = c-long; fields = create .1; create = create .0 }))
 
     module _ (b : Bytes) (b-is : b ≡ bytes) where
       abbrev given : Given
@@ -125,13 +125,13 @@ module _ (m : Lent) (g : Good cordLimit (m .store) (m .count)) where
       read : (bundleGood b ≡ true) × (eventsIn b ≡ raws s)
       read = rw b-is (written-read s all-long (fits .at-most))
 
-      counted-is : countedEvents cordLimit c (bundle b ∷ []) ≡ raws s
+      counted-is : countedEvents table c (bundle b ∷ []) ≡ raws s
       unfolding countedEvents offers offersOf
       counted-is =
           rw (read .0, read .1, append-nil (raws s))
-          (keep-all (passesBeside cordLimit c) (raws s) (λ e i. rw (all-pass e (raws-members s .0 e i))))
+          (keep-all (passesBeside table c) (raws s) (λ e i. rw (all-pass e (raws-members s .0 e i))))
 
-      makes : Makes c s given
+      makes : Makes table c s given
       makes =
           record {
             starts = start-answers;
@@ -144,26 +144,26 @@ module _ (m : Lent) (g : Good cordLimit (m .store) (m .count)) where
             );
           }
 
-      holds : Holds s (afterCall cordLimit (fresh m buffer) (bundle b))
+      holds : Holds table s (afterCall table (fresh table m buffer) (bundle b))
       unfolding afterCalls
-      holds = unit-holds c s fits given makes
+      holds = unit-holds table c s fits given makes
 
-      after-tells : Tells s (afterCall cordLimit (fresh m buffer) (bundle b))
+      after-tells : Tells table s (afterCall table (fresh table m buffer) (bundle b))
       unfolding afterCalls
-      after-tells = unit-tells c s fits given makes
+      after-tells = unit-tells table c s fits given makes
 
       abbrev ran : Run
-      ran = runOf cordLimit (freshRun (fresh m buffer .store) (fresh m buffer .count)) (raws s)
+      ran = runOf table (freshRun (fresh table m buffer .store) (fresh table m buffer .count)) (raws s)
 
-      bundle-is : bundleOf cordLimit (fresh m buffer .store) (fresh m buffer .count) b
+      bundle-is : bundleOf table (fresh table m buffer .store) (fresh table m buffer .count) b
           ≡ record { answer = value (ran .figures); count = ran .count; store = ran .store }
       bundle-is =
-          bundle-good cordLimit (fresh m buffer .store) (fresh m buffer .count) b (start-good cordLimit buffer c start-answers)
+          bundle-good table (fresh table m buffer .store) (fresh table m buffer .count) b (start-good table buffer c start-answers)
           ∙ rw (read .0, read .1)
 
-      count-same : afterCall cordLimit (fresh m buffer) (bundle b) .count ≡ m .count
+      count-same : afterCall table (fresh table m buffer) (bundle b) .count ≡ m .count
       count-same =
-          let n = afterCall cordLimit (fresh m buffer) (bundle b) in
+          let n = afterCall table (fresh table m buffer) (bundle b) in
           let k = length-chunks 192 (n .store) (n .count) in
           let a = distinct-length sha256 (heldBy n) s (holds .distinct) (holds .same-members .0) in
           let d = distinct-length sha256 s (heldBy n) (fits .distinct) (holds .same-members .1) in
@@ -173,13 +173,13 @@ module _ (m : Lent) (g : Good cordLimit (m .store) (m .count)) where
       unfolding afterCall
       ran-count = sym (ap (λ (x : Left Tally). x .count) bundle-is) ∙ count-same
 
-      running : Running cordLimit c s (fits .at-most) all-pass (freshRun (fresh m buffer .store) (fresh m buffer .count))
+      running : Running table c s (fits .at-most) all-pass (freshRun (fresh table m buffer .store) (fresh table m buffer .count))
       running =
           record {
-            good = start-good cordLimit buffer c start-answers;
-            creator-first = start-creator buffer c start-answers;
+            good = start-good table buffer c start-answers;
+            creator-first = start-creator table buffer c start-answers;
             within = λ y i.
-                let here = subst (List·Memᴰ y) (start-held buffer c start-answers) i in
+                let here = subst (List·Memᴰ y) (start-held table buffer c start-answers) i in
                 subst (List·Memᴰ y) (sym first) (List·Memᴰ·head (List·Memᴰ·eq-of-singleton here));
           }
 
@@ -189,14 +189,14 @@ module _ (m : Lent) (g : Good cordLimit (m .store) (m .count)) where
           few : length (raws s) ≤ 256
           few = omega (arith, raws-length s, fits .at-most)
 
-          rises : Rises cordLimit c s (fits .at-most) all-pass (freshRun (fresh m buffer .store) (fresh m buffer .count)) ran
-          rises = run-rises cordLimit c s (fits .at-most) all-pass (freshRun _ _) (raws s) running (raws-members s .0) (omega (arith, few))
+          rises : Rises table c s (fits .at-most) all-pass (freshRun (fresh table m buffer .store) (fresh table m buffer .count)) ran
+          rises = run-rises table c s (fits .at-most) all-pass (freshRun _ _) (raws s) running (raws-members s .0) (omega (arith, few))
 
-          one : fresh m buffer .count ≡ 1
-          one = sym (length-chunks 192 (fresh m buffer .store) (fresh m buffer .count)) ∙ ap length (start-held buffer c start-answers)
+          one : fresh table m buffer .count ≡ 1
+          one = sym (length-chunks 192 (fresh table m buffer .store) (fresh table m buffer .count)) ∙ ap length (start-held table buffer c start-answers)
 
           sum : total (ran .figures) ≡ length (raws s)
-          sum = figures-total cordLimit (fresh m buffer .store) (fresh m buffer .count) (raws s) few
+          sum = figures-total table (fresh table m buffer .store) (fresh table m buffer .count) (raws s) few
 
           news : ran .figures .new ≡ m .count - 1
           news = omega (arith, rises .by-new, one, ran-count)
@@ -210,21 +210,21 @@ module _ (m : Lent) (g : Good cordLimit (m .store) (m .count)) where
 -- ── the trip ────────────────────────────────────────────────────────────────────────────────────────────────────────────
 
 pub round-trip : RoundTrip
-round-trip m out again buffer h =
-    let g : Good cordLimit (m .store) (m .count) = record { size = h .size; passes = h .passes } in
-    let b-is = wrote-bytes m g m (self m g) out (h .out-long) in
-    let there = holds m g buffer (h .buffer-size) (writtenBy m out) b-is in
-    let tell = after-tells m g buffer (h .buffer-size) (writtenBy m out) b-is in
-    let answered = bundle-is m g buffer (h .buffer-size) (writtenBy m out) b-is in
+round-trip table m out again buffer h =
+    let g : Good table (m .store) (m .count) = record { size = h .size; lent = h .lent; passes = h .passes } in
+    let b-is = wrote-bytes table m g m (self table m g) out (h .out-long) in
+    let there = holds table m g buffer (h .buffer-size) (writtenBy table m out) b-is in
+    let tell = after-tells table m g buffer (h .buffer-size) (writtenBy table m out) b-is in
+    let answered = bundle-is table m g buffer (h .buffer-size) (writtenBy table m out) b-is in
     record {
-      written = ap (λ (r : Report ℕ). r .answer) (wrote m g m (self m g) out (h .out-long));
-      starts = start-answers m g buffer (h .buffer-size);
+      written = ap (λ (r : Report ℕ). r .answer) (wrote table m g m (self table m g) out (h .out-long));
+      starts = start-answers table m g buffer (h .buffer-size);
       figures =
           ap (λ (x : Left Tally). x .answer) answered
-          ∙ ap (λ (t : Tally). value t) (figures-are m g buffer (h .buffer-size) (writtenBy m out) b-is);
-      same-count = count-same m g buffer (h .buffer-size) (writtenBy m out) b-is;
+          ∙ ap (λ (t : Tally). value t) (figures-are table m g buffer (h .buffer-size) (writtenBy table m out) b-is);
+      same-count = count-same table m g buffer (h .buffer-size) (writtenBy table m out) b-is;
       same-events = there .same-members;
       distinct = there .distinct;
-      written-again = ap (λ (r : Report ℕ). r .answer) (wrote m g (taken m out buffer) tell again (h .again-long));
-      same-bytes = wrote-bytes m g (taken m out buffer) tell again (h .again-long) ∙ sym b-is;
+      written-again = ap (λ (r : Report ℕ). r .answer) (wrote table m g (taken table m out buffer) tell again (h .again-long));
+      same-bytes = wrote-bytes table m g (taken table m out buffer) tell again (h .again-long) ∙ sym b-is;
     }

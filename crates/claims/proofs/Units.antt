@@ -12,7 +12,6 @@ use Rattle.lists.specs.Sorting.{Distinct, distinct-one, distinct-map}
 use Rattle.lists.specs.Once.{once→, once←, once-distinct}
 use Rattle.lists.specs.Counting.{distinct-length}
 use Rattle.sha256.specs.Sha256.{sha256}
-use Rattle.cords.specs.Cords.{cordLimit}
 use Rattle.event.specs.Answers.{firstFailed}
 use Rattle.model.specs.Store.{eventOf, heldIn}
 use Rattle.model.specs.Heights.{View, order}
@@ -29,19 +28,19 @@ use Rattle.claims.specs.ThirdDemand.{Given, leaves, counts, Makes}
 
 -- ── the four calls of a store that passes check 2 ───────────────────────────────────────────────────────────────────────
 
-module _ (m : Lent) (g : Good cordLimit (m .store) (m .count)) where
+module _ (table : Bytes) (m : Lent) (g : Good table (m .store) (m .count)) where
   abbrev v : View
   v = heldView (m .store) (m .count)
 
   -- a call that writes gives its bytes where they fit, else 10
   reports : {A : Type 0} (a : A) (bytes out : Bytes)
-      → report (firstFailed (writeTests cordLimit (m .store) (m .count) bytes out)) a bytes out ≡ reportFrom a bytes out
+      → report (firstFailed (writeTests table (m .store) (m .count) bytes out)) a bytes out ≡ reportFrom a bytes out
   reports a bytes out =
-      rw (eq-eqb (length (m .store)) 49152 (g .size), g .passes)
+      rw (eq-eqb (length (m .store)) 49152 (g .size), g .lent, g .passes)
       (byBool (leb (length bytes) (length out)) (λ t. rw t) (λ f. rw f))
 
   -- so they tell the set whose view is that of the events held
-  pub tells : (s : List Bytes) → heldView (m .store) (m .count) ≡ setView s → Tells s m
+  pub tells : (s : List Bytes) → heldView (m .store) (m .count) ≡ setView s → Tells table s m
   unfolding orderOf mapOf writtenOf verdictOf
   tells s same =
       record {
@@ -57,9 +56,9 @@ module _ (m : Lent) (g : Good cordLimit (m .store) (m .count)) where
             ∙ ap (λ (x : View). reportFrom (length (writtenBytes x)) (writtenBytes x) out) same;
       }
     where
-      asked : (id : Bytes) → length id ≡ 32 → verdictOf cordLimit (m .store) (m .count) id ≡ verdictFrom v id
+      asked : (id : Bytes) → length id ≡ 32 → verdictOf table (m .store) (m .count) id ≡ verdictFrom v id
       asked id long =
-          rw (eq-eqb (length (m .store)) 49152 (g .size), eq-eqb (length id) 32 long, g .passes)
+          rw (eq-eqb (length (m .store)) 49152 (g .size), eq-eqb (length id) 32 long, g .lent, g .passes)
           (byBool (isSome (v .find id)) (λ t. rw t) (λ f. rw f))
 
 -- ── lists of one set ────────────────────────────────────────────────────────────────────────────────────────────────────
@@ -87,38 +86,38 @@ same-view l m d c h =
 -- ── a unit ──────────────────────────────────────────────────────────────────────────────────────────────────────────────
 
 -- what is held: the members of the set, each once
-pub record Holds (s : List Bytes) (m : Lent) : Type 0 where
-  pub good : Good cordLimit (m .store) (m .count)
+pub record Holds (table : Bytes) (s : List Bytes) (m : Lent) : Type 0 where
+  pub good : Good table (m .store) (m .count)
   pub same-members : SameMembers (heldBy m) s
   pub distinct : Distinct sha256 (heldBy m)
 
-module _ (creator : Bytes) (s : List Bytes) (fits : Fits s) (u : Given) (h : Makes creator s u) where
+module _ (table creator : Bytes) (s : List Bytes) (fits : Fits s) (u : Given) (h : Makes table creator s u) where
   abbrev set : List Bytes
-  set = setOf cordLimit creator (u .calls)
+  set = setOf table creator (u .calls)
 
   members : SameMembers set s
   members = (
-    (λ y i. h .same-set .1 y (once→ (counts creator u) y i)),
-    (λ y i. once← (counts creator u) y (h .same-set .0 y i)),
+    (λ y i. h .same-set .1 y (once→ (counts table creator u) y i)),
+    (λ y i. once← (counts table creator u) y (h .same-set .0 y i)),
   )
 
   set-fits : Fits set
   set-fits =
-      let apart = once-distinct (counts creator u) in
+      let apart = once-distinct (counts table creator u) in
       let few = distinct-length (λ x. x) set s apart (members .0) in
       record { at-most = omega (arith, few, fits .at-most); distinct = distinct-among set s apart (fits .distinct) (members .0) }
 
-  pub unit-holds : Holds s (leaves creator u)
+  pub unit-holds : Holds table s (leaves table creator u)
   unit-holds =
-      let held = set-held cordLimit (u .buffer) creator (h .starts) (u .calls) set-fits in
+      let held = set-held table (u .buffer) creator (h .starts) (u .calls) set-fits in
       record {
-        good = calls-good cordLimit (u .buffer) creator (h .starts) (u .calls);
+        good = calls-good table (u .buffer) creator (h .starts) (u .calls);
         same-members = subst (λ (l : List Bytes). SameMembers l s) (sym held) members;
         distinct = subst (Distinct sha256) (sym held) (set-fits .distinct);
       }
 
-  pub unit-tells : Tells s (leaves creator u)
+  pub unit-tells : Tells table s (leaves table creator u)
   unfolding heldIn
   unit-tells =
       let k = unit-holds in
-      tells (leaves creator u) (k .good) s (same-view (heldBy (leaves creator u)) s (k .distinct) (fits .distinct) (k .same-members))
+      tells table (leaves table creator u) (k .good) s (same-view (heldBy (leaves table creator u)) s (k .distinct) (fits .distinct) (k .same-members))

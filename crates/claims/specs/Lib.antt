@@ -5,3 +5,4 @@ pub mod RoundTrip
 pub mod Sums
 pub mod Struck
 pub mod FourthBlock
+pub mod Document

@@ -10,7 +10,7 @@ use Rattle.lists.specs.Tests.{SameMembers}
 use Rattle.lists.specs.Sorting.{Distinct}
 use Rattle.octets.specs.Octets.{part}
 use Rattle.sha256.specs.Sha256.{sha256}
-use Rattle.cords.specs.Cords.{cordLimit}
+use Rattle.cords.specs.Lent.{lentEntry, tableGood}
 use Rattle.event.specs.Answers.{Answer, value, refused}
 use Rattle.model.specs.Store.{storeGood}
 use Rattle.takes.specs.Takes.{stored, startOf, bundleOf}
@@ -22,9 +22,9 @@ abbrev pub frontOf : Answer ℕ → Bytes → Bytes
 frontOf (value n) out = take n out
 frontOf (refused k) out = []
 
-abbrev pub writtenBy : Lent → Bytes → Bytes
-writtenBy m out =
-    let r = writtenOf cordLimit (m .store) (m .count) out in
+abbrev pub writtenBy : Bytes → Lent → Bytes → Bytes
+writtenBy table m out =
+    let r = writtenOf table (m .store) (m .count) out in
     frontOf (r .answer) (r .out)
 
 -- 192 bytes for each event, and 12 for the trailer
@@ -36,37 +36,39 @@ abbrev pub creatorOf : Lent → Bytes
 creatorOf m = part (m .store) 0 192
 
 -- the fresh unit: the buffer, started with the create event; and the same unit after the written bundle
-abbrev pub fresh : Lent → Bytes → Lent
-fresh m buffer = started buffer (creatorOf m)
+abbrev pub fresh : Bytes → Lent → Bytes → Lent
+fresh table m buffer = started table buffer (creatorOf m)
 
-abbrev pub taken : Lent → Bytes → Bytes → Lent
-taken m out buffer = afterCall cordLimit (fresh m buffer) (bundle (writtenBy m out))
+abbrev pub taken : Bytes → Lent → Bytes → Bytes → Lent
+taken table m out buffer = afterCall table (fresh table m buffer) (bundle (writtenBy table m out))
 
--- all the premises: a store and a count that pass checks 1 and 2; two outputs long enough for the bundle; a buffer of the right
--- size, of any bytes
-pub record TripPremises (m : Lent) (out again buffer : Bytes) : Type 0 where
+-- all the premises: a table, a store and a count that pass checks 12, 1 and 2; two outputs long enough for the bundle; a buffer
+-- of the right size, of any bytes
+pub record TripPremises (table : Bytes) (m : Lent) (out again buffer : Bytes) : Type 0 where
   pub size : length (m .store) ≡ 49152
-  pub passes : storeGood cordLimit (m .store) (m .count) ≡ true
+  pub lent : tableGood table ≡ true
+  pub passes : storeGood (lentEntry table) (m .store) (m .count) ≡ true
   pub out-long : writtenSize m ≤ length out
   pub again-long : writtenSize m ≤ length again
   pub buffer-size : length buffer ≡ 49152
 
-pub record Trip (m : Lent) (out again buffer : Bytes) : Type 0 where
+pub record Trip (table : Bytes) (m : Lent) (out again buffer : Bytes) : Type 0 where
   -- write-out writes
-  pub written : writtenOf cordLimit (m .store) (m .count) out .answer ≡ value (writtenSize m)
+  pub written : writtenOf table (m .store) (m .count) out .answer ≡ value (writtenSize m)
   -- the fresh unit starts
-  pub starts : startOf buffer (creatorOf m) .answer ≡ value stored
+  pub starts : startOf table buffer (creatorOf m) .answer ≡ value stored
   -- all events but the create event are new to it, and none is refused
-  pub figures : bundleOf cordLimit (fresh m buffer .store) (fresh m buffer .count) (writtenBy m out) .answer
+  pub figures : bundleOf table (fresh table m buffer .store) (fresh table m buffer .count) (writtenBy table m out) .answer
       ≡ value (record { new = m .count - 1; repeats = 1; refused = 0 })
   -- it "gives that unit the same events", each once
-  pub same-count : taken m out buffer .count ≡ m .count
-  pub same-events : SameMembers (heldBy (taken m out buffer)) (heldBy m)
-  pub distinct : Distinct sha256 (heldBy (taken m out buffer))
+  pub same-count : taken table m out buffer .count ≡ m .count
+  pub same-events : SameMembers (heldBy (taken table m out buffer)) (heldBy m)
+  pub distinct : Distinct sha256 (heldBy (taken table m out buffer))
   -- "and writing them out again gives the same bytes"
-  pub written-again : writtenOf cordLimit (taken m out buffer .store) (taken m out buffer .count) again .answer
+  pub written-again : writtenOf table (taken table m out buffer .store) (taken table m out buffer .count) again .answer
       ≡ value (writtenSize m)
-  pub same-bytes : writtenBy (taken m out buffer) again ≡ writtenBy m out
+  pub same-bytes : writtenBy table (taken table m out buffer) again ≡ writtenBy table m out
 
 abbrev pub RoundTrip : Type 0
-RoundTrip = (m : Lent) (out again buffer : Bytes) → TripPremises m out again buffer → Trip m out again buffer
+RoundTrip =
+    (table : Bytes) (m : Lent) (out again buffer : Bytes) → TripPremises table m out again buffer → Trip table m out again buffer

@@ -1,5 +1,5 @@
 -- F-8: "Show that a store of 256 places never has a height above 255, remove the test, and strike the number. It is not given out
--- again. Every other answer remains what it was for every input." `entry` is any cord table of check 6.
+-- again. Every other answer remains what it was for every input." `table` is any lent cord table.
 use Prim.Native.Nat.{ℕ, _≤_}
 use mathlib.Core.Path.{_≡_}
 use mathlib.Core.Bool.{Bool, true, _&&_}
@@ -10,6 +10,7 @@ use lib.ListN.{length}
 use Rattle.lists.specs.Cases.{maybe, isSome}
 use Rattle.lists.specs.Bytes.{Bytes}
 use Rattle.lists.specs.Tests.{allOf}
+use Rattle.cords.specs.Lent.{lentEntry, tableGood}
 use Rattle.event.specs.declared.Refusal.{Refusal}
 use Rattle.event.specs.Answers.{refused, value, numberOf, Test, must, firstFailed}
 use Rattle.model.specs.Events.{Event}
@@ -31,47 +32,49 @@ HeightsLow =
 abbrev pub Struck : Type 0
 Struck = (k : Refusal) → numberOf k ≡ 11 → ⊥
 
--- ── the tests before ────────────────────────────────────────────────────────────────────────────────────────────────────
+-- ── the tests with 11 ────────────────────────────────────────────────────────────────────────────────────────────────────
 
 -- 11 was "order, verdict, map or write-out with a height above 255", the last test of each
 abbrev pub heightsLow : View → Bool
 heightsLow v = allOf (λ e. leb (maybe 0 (λ h. h) (height v (e .ident))) 255) (v .byId)
 
-abbrev pub writeTestsBefore : (ℕ → ℕ → ℕ) → Bytes → ℕ → Bytes → Bytes → List Test
-writeTestsBefore entry store count bytes out =
+abbrev pub writeTestsBefore : Bytes → Bytes → ℕ → Bytes → Bytes → List Test
+writeTestsBefore table store count bytes out =
     must 1 (storeLong store)
-    ∷ must 2 (storeGood entry store count)
+    ∷ must 12 (tableGood table)
+    ∷ must 2 (storeGood (lentEntry table) store count)
     ∷ must 10 (leb (length bytes) (length out))
     ∷ must 11 (heightsLow (heldView store count))
     ∷ []
 
-abbrev pub verdictTestsBefore : (ℕ → ℕ → ℕ) → Bytes → ℕ → Bytes → List Test
-verdictTestsBefore entry store count id =
+abbrev pub verdictTestsBefore : Bytes → Bytes → ℕ → Bytes → List Test
+verdictTestsBefore table store count id =
     must 1 (storeLong store && eqb (length id) 32)
-    ∷ must 2 (storeGood entry store count)
+    ∷ must 12 (tableGood table)
+    ∷ must 2 (storeGood (lentEntry table) store count)
     ∷ must 9 (isSome (heldView store count .find id))
     ∷ must 11 (heightsLow (heldView store count))
     ∷ []
 
 -- what a call that writes gave: the bytes at the front of the output, or the number
-abbrev pub reportBefore : {A : Type 0} → (ℕ → ℕ → ℕ) → Bytes → ℕ → A → Bytes → Bytes → Report A
-reportBefore entry store count a bytes out = report (firstFailed (writeTestsBefore entry store count bytes out)) a bytes out
+abbrev pub reportBefore : {A : Type 0} → Bytes → Bytes → ℕ → A → Bytes → Bytes → Report A
+reportBefore table store count a bytes out = report (firstFailed (writeTestsBefore table store count bytes out)) a bytes out
 
 -- "Every other answer remains what it was for every input": the lists have one first failure, so each of the four calls is what
 -- the list before made it of the events held, v
-pub record AnswersKept (entry : ℕ → ℕ → ℕ) (store : Bytes) (count : ℕ) (v : View) : Type 0 where
+pub record AnswersKept (table store : Bytes) (count : ℕ) (v : View) : Type 0 where
   pub write-tests : (bytes out : Bytes)
-      → firstFailed (writeTests entry store count bytes out) ≡ firstFailed (writeTestsBefore entry store count bytes out)
+      → firstFailed (writeTests table store count bytes out) ≡ firstFailed (writeTestsBefore table store count bytes out)
   pub verdict-tests : (id : Bytes)
-      → firstFailed (verdictTests entry store count id) ≡ firstFailed (verdictTestsBefore entry store count id)
+      → firstFailed (verdictTests table store count id) ≡ firstFailed (verdictTestsBefore table store count id)
   pub order-kept : (out : Bytes)
-      → orderOf entry store count out ≡ reportBefore entry store count (length (order v)) (orderBytes v) out
+      → orderOf table store count out ≡ reportBefore table store count (length (order v)) (orderBytes v) out
   pub verdict-kept : (id : Bytes)
-      → verdictOf entry store count id ≡ maybe (value (verdict v id)) refused (firstFailed (verdictTestsBefore entry store count id))
+      → verdictOf table store count id ≡ maybe (value (verdict v id)) refused (firstFailed (verdictTestsBefore table store count id))
   pub map-kept : (out : Bytes)
-      → mapOf entry store count out ≡ reportBefore entry store count (figuresOf (machine v)) (mapBytes v) out
+      → mapOf table store count out ≡ reportBefore table store count (figuresOf (machine v)) (mapBytes v) out
   pub written-kept : (out : Bytes)
-      → writtenOf entry store count out ≡ reportBefore entry store count (length (writtenBytes v)) (writtenBytes v) out
+      → writtenOf table store count out ≡ reportBefore table store count (length (writtenBytes v)) (writtenBytes v) out
 
 abbrev pub EveryAnswerKept : Type 0
-EveryAnswerKept = (entry : ℕ → ℕ → ℕ) (store : Bytes) (count : ℕ) → AnswersKept entry store count (heldView store count)
+EveryAnswerKept = (table store : Bytes) (count : ℕ) → AnswersKept table store count (heldView store count)

@@ -7,7 +7,6 @@ use lib.Dec.{leb}
 use lib.ListN.{length}
 use Rattle.lists.specs.Cases.{isSome}
 use Rattle.lists.specs.Bytes.{Bytes}
-use Rattle.cords.specs.Cords.{cordLimit}
 use Rattle.event.specs.Answers.{Answer, value, refused}
 use Rattle.model.specs.Store.{eventOf}
 use Rattle.model.specs.Heights.{View, view, order}
@@ -34,17 +33,17 @@ reportFrom a bytes out =
 abbrev pub verdictFrom : View → Bytes → Answer ℕ
 verdictFrom v id = cond (isSome (v .find id)) (value (verdict v id)) (refused 9)
 
--- the four calls, lent the store and the count, tell what is defined from the set `s`, whatever output they are lent
-pub record Tells (s : List Bytes) (m : Lent) : Type 0 where
+-- the four calls, lent the store, the count and a cord table, tell what is defined from the set `s`, whatever output they are lent
+pub record Tells (table : Bytes) (s : List Bytes) (m : Lent) : Type 0 where
   -- "order's rows and their number"
   pub order-told : (out : Bytes)
-      → orderOf cordLimit (m .store) (m .count) out ≡ reportFrom (length (order (setView s))) (orderBytes (setView s)) out
+      → orderOf table (m .store) (m .count) out ≡ reportFrom (length (order (setView s))) (orderBytes (setView s)) out
   -- "for every asked id of 32 bytes the verdict, or 9"
-  pub verdict-told : (id : Bytes) → length id ≡ 32 → verdictOf cordLimit (m .store) (m .count) id ≡ verdictFrom (setView s) id
+  pub verdict-told : (id : Bytes) → length id ≡ 32 → verdictOf table (m .store) (m .count) id ≡ verdictFrom (setView s) id
   -- "the map's rows, their number, ended and joins run"
   pub map-told : (out : Bytes)
-      → mapOf cordLimit (m .store) (m .count) out ≡ reportFrom (figuresOf (machine (setView s))) (mapBytes (setView s)) out
+      → mapOf table (m .store) (m .count) out ≡ reportFrom (figuresOf (machine (setView s))) (mapBytes (setView s)) out
   -- "write-out's bytes and their number"
   pub written-told : (out : Bytes)
-      → writtenOf cordLimit (m .store) (m .count) out
+      → writtenOf table (m .store) (m .count) out
       ≡ reportFrom (length (writtenBytes (setView s))) (writtenBytes (setView s)) out

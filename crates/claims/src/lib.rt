@@ -10,6 +10,7 @@ ghost use Rattle.claims.specs.Witness.{Witness};
 ghost use Rattle.claims.specs.RoundTrip.{RoundTrip};
 ghost use Rattle.claims.specs.Sums.{FiguresAddUp, JoinsAddUp, Check2Exact};
 ghost use Rattle.claims.specs.Struck.{HeightsLow, Struck, EveryAnswerKept};
+ghost use Rattle.claims.specs.Document.{DocumentTableKept};
 ghost use Rattle.claims.specs.FourthBlock.{FourthSchedule};
 
 // Two units, one create event, two lists of calls whose counted events make one set: equal answers, defined from the set.
@@ -55,6 +56,11 @@ pub fn number_11_struck()
 // Order, verdict, map and write-out answer what they answered with a test for 11.
 pub fn answers_kept()
     ensures { λ _. ⌜ EveryAnswerKept ⌝ }
+{}
+
+// Lent document 01's cord table, each call answers what the constant table makes it answer.
+pub fn document_table_kept()
+    ensures { λ _. ⌜ DocumentTableKept ⌝ }
 {}
 
 // The constant schedule of an event's fourth block has the words of FIPS 180-4.

@@ -2,6 +2,7 @@
 use libc::STDOUT_FILENO;
 use takes::BundleAnswer;
 use takes::TakeAnswer;
+use takes::Taken;
 use takes::Tally;
 
 fn main() {
@@ -12,23 +13,24 @@ fn main() {
 // "256 held: a held event answers repeat, a new one 7."
 fn full_store() {
     let creator = [0u8; 192];
+    let table = cords::document_table();
     let mut store = [0u8; 49152];
-    let started = takes::start(&mut store, &creator);
+    let started = takes::start(&mut store, &table, &creator);
     let mut count = started.count;
     let mut port: u16 = 0;
     while port < 255 {
-        let taken = takes::take(&mut store, count, &unplug(port));
+        let taken = offer(&mut store, count, port);
         count = taken.count;
         port += 1;
     }
     io::write_all(STDOUT_FILENO, b"10: held ");
     io::print_decimal(STDOUT_FILENO, count as u64);
     io::write_all(STDOUT_FILENO, b"\n10: a held event: ");
-    let held = takes::take(&mut store, count, &unplug(200));
+    let held = offer(&mut store, count, 200);
     let answer = held.answer;
     say(answer);
     io::write_all(STDOUT_FILENO, b"10: a new event: ");
-    let new = takes::take(&mut store, count, &unplug(255));
+    let new = offer(&mut store, count, 255);
     let refused = new.answer;
     say(refused);
 }
@@ -36,10 +38,11 @@ fn full_store() {
 // "A bundle of count 0 is 12 bytes and offers nothing."
 fn empty_bundle() {
     let creator = [0u8; 192];
+    let table = cords::document_table();
     let mut store = [0u8; 49152];
-    let started = takes::start(&mut store, &creator);
+    let started = takes::start(&mut store, &table, &creator);
     io::write_all(STDOUT_FILENO, b"11: a bundle of count 0: ");
-    let taken = takes::take_bundle(&mut store, started.count, b"\0\0\0\0\0\0\0\0BACK");
+    let taken = takes::take_bundle(&mut store, started.count, &table, b"\0\0\0\0\0\0\0\0BACK");
     let answer = taken.answer;
     match answer {
         BundleAnswer::Figures(figures) => say_figures(figures),
@@ -48,6 +51,12 @@ fn empty_bundle() {
     io::write_all(STDOUT_FILENO, b"11: held ");
     io::print_decimal(STDOUT_FILENO, taken.count as u64);
     io::write_all(STDOUT_FILENO, b"\n");
+}
+
+// Takes the unplug of a port.
+fn offer(store: &mut [u8], count: usize, port: u16) -> Taken {
+    let table = cords::document_table();
+    takes::take(store, count, &table, &unplug(port))
 }
 
 // An unplug of a port, whose one parent nobody holds.

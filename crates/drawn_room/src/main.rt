@@ -15,24 +15,26 @@ fn main() {
     let j = join(2, &b, &b);
     let r1 = revoke(1, &a, &b, &b);
     let r2 = revoke(0, &c, &a, &j);
+    let table = unit::document_table();
     let mut store = [0u8; 49152];
-    let started = unit::start(&mut store, &c);
-    let with_a = take(&mut store, started.count, &a);
-    let with_b = take(&mut store, with_a, &b);
-    let with_j = take(&mut store, with_b, &j);
-    let with_r1 = take(&mut store, with_j, &r1);
-    verdict(&store, with_r1, &j, b"5: j ");
-    let with_r2 = take(&mut store, with_r1, &r2);
-    verdict(&store, with_r2, &r1, b"6: r1 ");
-    verdict(&store, with_r2, &j, b"6: j ");
-    order_and_map(&store, with_r2);
-    held(&store, with_r2, &j);
-    carry_over(&store, with_r2, &j);
+    let started = unit::start(&mut store, &table, &c);
+    let with_a = take(&mut store, started.count, &table, &a);
+    let with_b = take(&mut store, with_a, &table, &b);
+    let with_j = take(&mut store, with_b, &table, &j);
+    let with_r1 = take(&mut store, with_j, &table, &r1);
+    verdict(&store, with_r1, &table, &j, b"5: j ");
+    let with_r2 = take(&mut store, with_r1, &table, &r2);
+    verdict(&store, with_r2, &table, &r1, b"6: r1 ");
+    verdict(&store, with_r2, &table, &j, b"6: j ");
+    order_and_map(&store, with_r2, &table);
+    held(&store, with_r2, &table, &j);
+    short_table(&store, with_r2, &table);
+    carry_over(&store, with_r2, &table, &j);
 }
 
 // The count after a take.
-fn take(store: &mut [u8; 49152], count: usize, e: &[u8; 192]) -> usize {
-    let taken = unit::take(store, count, e);
+fn take(store: &mut [u8; 49152], count: usize, table: &[u8; 512], e: &[u8; 192]) -> usize {
+    let taken = unit::take(store, count, table, e);
     taken.count
 }
 
@@ -72,9 +74,9 @@ fn join(author: u8, under: &[u8; 192], parent: &[u8; 192]) -> [u8; 192] {
     e
 }
 
-fn verdict(store: &[u8; 49152], count: usize, e: &[u8; 192], name: &[u8]) {
+fn verdict(store: &[u8; 49152], count: usize, table: &[u8; 512], e: &[u8; 192], name: &[u8]) {
     io::write_all(STDOUT_FILENO, name);
-    match unit::verdict(store, count, &sha256::event_id(e)) {
+    match unit::verdict(store, count, table, &sha256::event_id(e)) {
         VerdictAnswer::Verdict(shown) => say(shown as usize),
         VerdictAnswer::Refused(refusal) => say_refusal(unit::number(refusal)),
     }
@@ -82,12 +84,12 @@ fn verdict(store: &[u8; 49152], count: usize, e: &[u8; 192], name: &[u8]) {
 }
 
 // The number of rows of the order; rows, ended and joins of the map.
-fn order_and_map(store: &[u8; 49152], count: usize) {
+fn order_and_map(store: &[u8; 49152], count: usize, table: &[u8; 512]) {
     let mut out = [0u8; 216];
     io::write_all(STDOUT_FILENO, b"order ");
-    say_count(unit::order(store, count, &mut out));
+    say_count(unit::order(store, count, table, &mut out));
     io::write_all(STDOUT_FILENO, b"map ");
-    match unit::map(store, count, &mut out) {
+    match unit::map(store, count, table, &mut out) {
         MapAnswer::Map(figures) => {
             say(figures.rows);
             io::write_all(STDOUT_FILENO, b" ");
@@ -101,35 +103,42 @@ fn order_and_map(store: &[u8; 49152], count: usize) {
 }
 
 // How many bytes of the store the look-up gives back: an event's.
-fn held(store: &[u8; 49152], count: usize, e: &[u8; 192]) {
+fn held(store: &[u8; 49152], count: usize, table: &[u8; 512], e: &[u8; 192]) {
     let mut number: u8 = 255;
     io::write_all(STDOUT_FILENO, b"look-up ");
-    let part = unit::look_up(store, count, &sha256::event_id(e), &mut number);
+    let part = unit::look_up(store, count, table, &sha256::event_id(e), &mut number);
     say(part.len());
     io::write_all(STDOUT_FILENO, b" number ");
     say(number as usize);
     io::write_all(STDOUT_FILENO, b"\n");
 }
 
+// A cord table of 511 bytes is refused.
+fn short_table(store: &[u8; 49152], count: usize, table: &[u8; 512]) {
+    let mut out = [0u8; 216];
+    io::write_all(STDOUT_FILENO, b"a table of 511 bytes: ");
+    say_count(unit::order(store, count, octets::part(table, 0, 511), &mut out));
+}
+
 // Writes the events out as a bundle, starts a fresh unit with its first event, gives it one event, then the bundle, both with a tally,
 // and writes its text.
-fn carry_over(store: &[u8; 49152], count: usize, e: &[u8; 192]) {
+fn carry_over(store: &[u8; 49152], count: usize, table: &[u8; 512], e: &[u8; 192]) {
     let mut bundle = [0u8; 1164];
     let mut fresh = [0u8; 49152];
     let mut number: u8 = 255;
     let mut out = [0u8; 57];
     io::write_all(STDOUT_FILENO, b"write-out ");
-    say_count(unit::write_out(store, count, &mut bundle));
+    say_count(unit::write_out(store, count, table, &mut bundle));
     let creator = unit::first_event(&bundle, &mut number);
-    let started = unit::start(&mut fresh, creator);
+    let started = unit::start(&mut fresh, table, creator);
     let none = Tally {
         new: 0,
         repeats: 0,
         refused: 0,
     };
-    let first = tally::take_with(&mut fresh, started.count, e, none);
+    let first = tally::take_with(&mut fresh, started.count, table, e, none);
     let one = first.taken;
-    let counted = tally::bundle_with(&mut fresh, one.count, &bundle, first.tally);
+    let counted = tally::bundle_with(&mut fresh, one.count, table, &bundle, first.tally);
     let taken = counted.taken;
     let answer = taken.answer;
     io::write_all(STDOUT_FILENO, b"bundle ");
@@ -140,7 +149,7 @@ fn carry_over(store: &[u8; 49152], count: usize, e: &[u8; 192]) {
     io::write_all(STDOUT_FILENO, b"tally ");
     say_figures(counted.tally);
     io::write_all(STDOUT_FILENO, b"text ");
-    say_count(unit::text(&fresh, taken.count, &mut out));
+    say_count(unit::text(&fresh, taken.count, table, &mut out));
     io::write_all(STDOUT_FILENO, &out);
 }
 

@@ -3,7 +3,6 @@
 ghost use mathlib.Core.Path.{_≡_};
 ghost use Prim.Native.Nat.{_≤_};
 ghost use lib.ListN.{length, take};
-ghost use Rattle.cords.specs.Cords.{cordLimit};
 ghost use Rattle.print_program.specs.Page.{heldPage, takenPage, startedPage, pageOf};
 use libc::STDOUT_FILENO;
 use unit::CountAnswer;
@@ -35,11 +34,11 @@ pub fn text_area() -> [u8; 8192]
 }
 
 // Writes the text of the events held, or the line of a refusal, to the front of the output; answers how many bytes that is.
-fn write_held(store: &[u8], count: usize, out: &mut [u8]) -> usize
+fn write_held(store: &[u8], count: usize, table: &[u8], out: &mut [u8]) -> usize
     requires { ⌜ 12 ≤ length (now out) ⌝ }
-    ensures { λ r. ⌜ take r (now (out .exit)) ≡ heldPage cordLimit (now (store .entry)) count (now (out .entry)) ⌝ }
+    ensures { λ r. ⌜ take r (now (out .exit)) ≡ heldPage (now (table .entry)) (now (store .entry)) count (now (out .entry)) ⌝ }
 {
-    match unit::text(store, count, out) {
+    match unit::text(store, count, table, out) {
         CountAnswer::Count(n) => n,
         CountAnswer::Refused(refusal) => text_format::refusal_line(unit::number(refusal), out),
     }
@@ -47,33 +46,35 @@ fn write_held(store: &[u8], count: usize, out: &mut [u8]) -> usize
 
 // Takes the whole file into a started unit, and writes its text. The take is not refused: a file with a first event passes check 8,
 // and a start leaves a store that passes check 2.
-fn write_taken(file: &[u8], store: &mut [u8], count: usize, out: &mut [u8]) -> usize
+fn write_taken(file: &[u8], store: &mut [u8], count: usize, table: &[u8], out: &mut [u8]) -> usize
     requires { ⌜ 12 ≤ length (now out) ⌝ }
-    ensures { λ r. ⌜ take r (now (out .exit)) ≡ takenPage cordLimit (now (file .entry)) (now (store .entry)) count (now (out .entry)) ⌝ }
+    ensures { λ r. ⌜ take r (now (out .exit))
+        ≡ takenPage (now (table .entry)) (now (file .entry)) (now (store .entry)) count (now (out .entry)) ⌝ }
 {
-    let taken = unit::take_bundle(store, count, file);
-    write_held(&store[..], taken.count, out)
+    let taken = unit::take_bundle(store, count, table, file);
+    write_held(&store[..], taken.count, table, out)
 }
 
 // Starts a unit with an event, takes the whole file into it, and writes its text.
-fn write_started(file: &[u8], first: &[u8], store: &mut [u8], out: &mut [u8]) -> usize
+fn write_started(file: &[u8], first: &[u8], store: &mut [u8], table: &[u8], out: &mut [u8]) -> usize
     requires { ⌜ 12 ≤ length (now out) ⌝ }
-    ensures { λ r. ⌜ take r (now (out .exit)) ≡ startedPage cordLimit (now (file .entry)) (now (first .entry)) (now (store .entry)) (now (out .entry)) ⌝ }
+    ensures { λ r. ⌜ take r (now (out .exit))
+        ≡ startedPage (now (table .entry)) (now (file .entry)) (now (first .entry)) (now (store .entry)) (now (out .entry)) ⌝ }
 {
-    let started = unit::start(store, first);
+    let started = unit::start(store, table, first);
     let answer = started.answer;
     match answer {
-        TakeAnswer::Stored => write_taken(file, store, started.count, out),
-        TakeAnswer::Repeat => write_taken(file, store, started.count, out),
+        TakeAnswer::Stored => write_taken(file, store, started.count, table, out),
+        TakeAnswer::Repeat => write_taken(file, store, started.count, table, out),
         TakeAnswer::Refused(refusal) => text_format::refusal_line(unit::number(refusal), out),
     }
 }
 
 // Writes what the program writes for a room.bun of these bytes to the front of the output; answers how many bytes that is.
-// The store is room to work in.
+// The store is room to work in. Each call is lent document 01's cord table.
 pub fn page(file: &[u8], store: &mut [u8], out: &mut [u8]) -> usize
     requires { ⌜ 12 ≤ length (now out) ⌝ }
-    ensures { λ r. ⌜ take r (now (out .exit)) ≡ pageOf cordLimit (now (file .entry)) (now (store .entry)) (now (out .entry)) ⌝ }
+    ensures { λ r. ⌜ take r (now (out .exit)) ≡ pageOf (now (file .entry)) (now (store .entry)) (now (out .entry)) ⌝ }
 {
     if 65536 < file.len() {
         return text_format::refusal_line(8, out);
@@ -83,7 +84,8 @@ pub fn page(file: &[u8], store: &mut [u8], out: &mut [u8]) -> usize
     if number != 0 {
         return text_format::refusal_line(number, out);
     }
-    write_started(file, first, store, out)
+    let table = unit::document_table();
+    write_started(file, first, store, &table, out)
 }
 
 // Writes the line of a refusal.

@@ -13,10 +13,12 @@ use takes::BundleAnswer;
 use takes::TakeAnswer;
 use takes::Tally;
 
-// What later calls are lent beside the store area: the count, how many bytes of the area are the store, and the tally.
+// What later calls are lent beside the areas: the count, how many bytes of the store area are the store and how many of the table area the
+// cord table, and the tally.
 struct State {
     count: usize,
     length: usize,
+    table: usize,
     tally: Tally,
 }
 
@@ -72,6 +74,7 @@ fn first_state() -> State {
     State {
         count: 0,
         length: store::STORE_BYTES,
+        table: cords::TABLE_BYTES,
         tally,
     }
 }
@@ -166,11 +169,12 @@ fn bad_script() -> Next {
     Next::Stop
 }
 
-// The calls. Each lends the store as so many bytes of the area; that is never more than it has, and `within` says so to the prover.
+// The calls. Each lends the store as so many bytes of the area; that is never more than it has, and `within` says so to the prover. The
+// cord table comes as a part of its area.
 
-fn start(payload: &[u8], area: &mut [u8], s: State) -> Next {
+fn start(payload: &[u8], area: &mut [u8], table: &[u8], s: State) -> Next {
     let end = within(s.length, area);
-    let taken = takes::start(&mut area[..end], payload);
+    let taken = takes::start(&mut area[..end], table, payload);
     let answer = taken.answer;
     write_word(b"start ");
     write_answer(answer);
@@ -180,50 +184,52 @@ fn start(payload: &[u8], area: &mut [u8], s: State) -> Next {
     Next::Go(State {
         count: taken.count,
         length: s.length,
+        table: s.table,
         tally,
     })
 }
 
 // The rest of a take's line, and the state after it.
-fn end_taken(area: &[u8], length: usize, count: usize, tally: Tally) -> Next {
+fn end_taken(area: &[u8], count: usize, tally: Tally, s: State) -> Next {
     write_store(count, area);
     write_word(b" ");
     write_tally(tally);
     write_word(b"\n");
     Next::Go(State {
         count,
-        length,
+        length: s.length,
+        table: s.table,
         tally,
     })
 }
 
-fn take(payload: &[u8], area: &mut [u8], s: State) -> Next {
+fn take(payload: &[u8], area: &mut [u8], table: &[u8], s: State) -> Next {
     let end = within(s.length, area);
     let before = s.tally;
-    let done = tally::take_with(&mut area[..end], s.count, payload, before);
+    let done = tally::take_with(&mut area[..end], s.count, table, payload, before);
     let taken = done.taken;
     let tally = done.tally;
     let answer = taken.answer;
     write_word(b"take ");
     write_answer(answer);
-    end_taken(area, s.length, taken.count, tally)
+    end_taken(area, taken.count, tally, s)
 }
 
-fn take_bundle(payload: &[u8], area: &mut [u8], s: State) -> Next {
+fn take_bundle(payload: &[u8], area: &mut [u8], table: &[u8], s: State) -> Next {
     let end = within(s.length, area);
     let before = s.tally;
-    let done = tally::bundle_with(&mut area[..end], s.count, payload, before);
+    let done = tally::bundle_with(&mut area[..end], s.count, table, payload, before);
     let taken = done.taken;
     let tally = done.tally;
     let answer = taken.answer;
     write_word(b"bundle ");
     write_figures(answer);
-    end_taken(area, s.length, taken.count, tally)
+    end_taken(area, taken.count, tally, s)
 }
 
-fn look_up(id: &[u8], store: &[u8], s: State) -> Next {
+fn look_up(id: &[u8], store: &[u8], table: &[u8], s: State) -> Next {
     let mut number = 0;
-    let held = store::look_up(store, s.count, id, &mut number);
+    let held = store::look_up(store, s.count, table, id, &mut number);
     write_word(b"lookup ");
     if number == 0 {
         write_digest(held);
@@ -237,8 +243,8 @@ fn look_up(id: &[u8], store: &[u8], s: State) -> Next {
     Next::Go(s)
 }
 
-fn verdict(id: &[u8], store: &[u8], s: State) -> Next {
-    let answer = reports::verdict(store, s.count, id);
+fn verdict(id: &[u8], store: &[u8], table: &[u8], s: State) -> Next {
+    let answer = reports::verdict(store, s.count, table, id);
     write_word(b"verdict ");
     match answer {
         VerdictAnswer::Verdict(v) => write_number(v as usize),
@@ -249,33 +255,40 @@ fn verdict(id: &[u8], store: &[u8], s: State) -> Next {
 }
 
 // The call that a letter names: O, M, or else W.
-fn write_report(letter: u8, store: &[u8], count: usize, out: &mut [u8]) {
+fn write_report(letter: u8, store: &[u8], count: usize, table: &[u8], out: &mut [u8]) {
     match letter {
         b'O' => {
             write_word(b"order ");
-            write_count(reports::order(store, count, out));
+            write_count(reports::order(store, count, table, out));
         }
         b'M' => {
             write_word(b"map ");
-            write_map(reports::map(store, count, out));
+            write_map(reports::map(store, count, table, out));
         }
         _ => {
             write_word(b"writeout ");
-            write_count(reports::write_out(store, count, out));
+            write_count(reports::write_out(store, count, table, out));
         }
     }
 }
 
 // Fills the output, runs the call, and writes its line.
-fn report_to(out: &mut [u8], letter: u8, store: &[u8], count: usize) {
+fn report_to(out: &mut [u8], letter: u8, store: &[u8], count: usize, table: &[u8]) {
     fill(out, 238);
-    write_report(letter, store, count, out);
+    write_report(letter, store, count, table, out);
     write_word(b" ");
     write_digest(out);
     write_word(b"\n");
 }
 
-fn report(letter: u8, payload: &[u8], store: &[u8], out: &mut [u8], s: State) -> Next {
+fn report(
+    letter: u8,
+    payload: &[u8],
+    store: &[u8],
+    table: &[u8],
+    out: &mut [u8],
+    s: State,
+) -> Next {
     if payload.len() != 4 {
         return bad_script();
     }
@@ -283,7 +296,7 @@ fn report(letter: u8, payload: &[u8], store: &[u8], out: &mut [u8], s: State) ->
     if out.len() < n {
         return bad_script();
     }
-    report_to(&mut out[..n], letter, store, s.count);
+    report_to(&mut out[..n], letter, store, s.count, table);
     Next::Go(s)
 }
 
@@ -301,6 +314,7 @@ fn set_count(payload: &[u8], s: State) -> Next {
     Next::Go(State {
         count,
         length: s.length,
+        table: s.table,
         tally,
     })
 }
@@ -320,6 +334,7 @@ fn set_length(payload: &[u8], most: usize, s: State) -> Next {
     Next::Go(State {
         count: s.count,
         length,
+        table: s.table,
         tally,
     })
 }
@@ -339,6 +354,7 @@ fn set_tally(payload: &[u8], s: State) -> Next {
     Next::Go(State {
         count: s.count,
         length: s.length,
+        table: s.table,
         tally,
     })
 }
@@ -357,11 +373,35 @@ fn poke(payload: &[u8], area: &mut [u8], s: State) -> Next {
     Next::Go(s)
 }
 
-fn reset(payload: &[u8], area: &mut [u8]) -> Next {
+// Writes document 01's cord table to the front of the table area.
+fn document_table(table: &mut [u8]) {
+    let document = cords::document_table();
+    octets::paste(table, 0, &document);
+}
+
+fn set_table(payload: &[u8], table: &mut [u8], s: State) -> Next {
+    if table.len() < payload.len() {
+        return bad_script();
+    }
+    octets::paste(table, 0, payload);
+    write_word(b"table ");
+    write_number(payload.len());
+    write_word(b"\n");
+    let tally = s.tally;
+    Next::Go(State {
+        count: s.count,
+        length: s.length,
+        table: payload.len(),
+        tally,
+    })
+}
+
+fn reset(payload: &[u8], area: &mut [u8], table: &mut [u8]) -> Next {
     if payload.len() != 0 {
         return bad_script();
     }
     fill(area, 165);
+    document_table(table);
     write_word(b"reset\n");
     Next::Go(first_state())
 }
@@ -389,29 +429,72 @@ fn print_room(payload: &[u8], s: State) -> Next {
 }
 
 // Runs the operations that read the store, or else says that the letter is none.
-fn perform_reading(letter: u8, payload: &[u8], store: &[u8], out: &mut [u8], s: State) -> Next {
+fn perform_reading(
+    letter: u8,
+    payload: &[u8],
+    store: &[u8],
+    table: &[u8],
+    out: &mut [u8],
+    s: State,
+) -> Next {
     match letter {
-        b'L' => look_up(payload, store, s),
-        b'V' => verdict(payload, store, s),
-        b'O' | b'M' | b'W' => report(letter, payload, store, out, s),
+        b'L' => look_up(payload, store, table, s),
+        b'V' => verdict(payload, store, table, s),
+        b'O' | b'M' | b'W' => report(letter, payload, store, table, out, s),
         b'D' => show_digest(payload, s),
         b'R' => print_room(payload, s),
         _ => bad_script(),
     }
 }
 
-// Runs a record.
-fn perform(letter: u8, payload: &[u8], area: &mut [u8], out: &mut [u8], s: State) -> Next {
+// Runs the calls, or else the operations that read.
+fn perform_call(
+    letter: u8,
+    payload: &[u8],
+    area: &mut [u8],
+    table: &[u8],
+    out: &mut [u8],
+    s: State,
+) -> Next {
     match letter {
-        b'S' => start(payload, area, s),
-        b'T' => take(payload, area, s),
-        b'B' => take_bundle(payload, area, s),
+        b'S' => start(payload, area, table, s),
+        b'T' => take(payload, area, table, s),
+        b'B' => take_bundle(payload, area, table, s),
+        _ => perform_reading(
+            letter,
+            payload,
+            octets::part(area, 0, s.length),
+            table,
+            out,
+            s,
+        ),
+    }
+}
+
+// Runs a record: an operation on the state, or else a call.
+fn perform(
+    letter: u8,
+    payload: &[u8],
+    area: &mut [u8],
+    table: &mut [u8],
+    out: &mut [u8],
+    s: State,
+) -> Next {
+    match letter {
         b'C' => set_count(payload, s),
         b'P' => poke(payload, area, s),
         b'N' => set_length(payload, area.len(), s),
         b'Y' => set_tally(payload, s),
-        b'Z' => reset(payload, area),
-        _ => perform_reading(letter, payload, octets::part(area, 0, s.length), out, s),
+        b'K' => set_table(payload, table, s),
+        b'Z' => reset(payload, area, table),
+        _ => perform_call(
+            letter,
+            payload,
+            area,
+            octets::part(table, 0, s.table),
+            out,
+            s,
+        ),
     }
 }
 
@@ -436,9 +519,16 @@ fn read_record(payload: &mut [u8]) -> Input {
 }
 
 // Reads a record and runs it.
-fn turn(payload: &mut [u8], area: &mut [u8], out: &mut [u8], s: State) -> Next {
+fn turn(payload: &mut [u8], area: &mut [u8], table: &mut [u8], out: &mut [u8], s: State) -> Next {
     match read_record(payload) {
-        Input::Record(letter, n) => perform(letter, octets::part(payload, 0, n), area, out, s),
+        Input::Record(letter, n) => perform(
+            letter,
+            octets::part(payload, 0, n),
+            area,
+            table,
+            out,
+            s,
+        ),
         Input::End => Next::Stop,
         Input::Broken => bad_script(),
     }
@@ -446,11 +536,11 @@ fn turn(payload: &mut [u8], area: &mut [u8], out: &mut [u8], s: State) -> Next {
 
 // Runs record after record. A loop has to end, and nothing says that a script does: the loop counts its turns down from a number
 // that no script uses up.
-fn run(payload: &mut [u8], area: &mut [u8], out: &mut [u8]) {
+fn run(payload: &mut [u8], area: &mut [u8], table: &mut [u8], out: &mut [u8]) {
     let mut state = first_state();
     let mut turns = u64::MAX;
     while turns > 0 {
-        match turn(payload, area, out, state) {
+        match turn(payload, area, table, out, state) {
             Next::Go(after) => state = after,
             Next::Stop => return,
         }
@@ -462,6 +552,8 @@ fn run(payload: &mut [u8], area: &mut [u8], out: &mut [u8]) {
 pub fn drive() {
     let mut payload = payload_area();
     let mut area = store_area();
+    let mut table = [0u8; 1024];
+    document_table(&mut table);
     let mut out = io::large_buffer();
-    run(&mut payload, &mut area, &mut out);
+    run(&mut payload, &mut area, &mut table, &mut out);
 }

@@ -64,14 +64,14 @@ counted-more t f (refused n) = rw (raised-more (t .refused) (f .refused))
 abbrev pub over : Tally → Run → Run
 over t r = record { figures = addFigures t (r .figures); count = r .count; store = r .store }
 
-step-over : (entry : ℕ → ℕ → ℕ) (t : Tally) (r : Run) (e : Bytes) → step entry (over t r) e ≡ over t (step entry r e)
+step-over : (table : Bytes) (t : Tally) (r : Run) (e : Bytes) → step table (over t r) e ≡ over t (step table r e)
 unfolding step
-step-over entry t r e = rw (counted-more t (r .figures) (takeOf entry (r .store) (r .count) e .answer))
+step-over table t r e = rw (counted-more t (r .figures) (takeOf table (r .store) (r .count) e .answer))
 
-pub run-over : (entry : ℕ → ℕ → ℕ) (t : Tally) (r : Run) (es : List Bytes) → runOf entry (over t r) es ≡ over t (runOf entry r es)
+pub run-over : (table : Bytes) (t : Tally) (r : Run) (es : List Bytes) → runOf table (over t r) es ≡ over t (runOf table r es)
 unfolding runOf
-run-over entry t r [] = refl
-run-over entry t r (e ∷ es) = rw (step-over entry t r e) (run-over entry t (step entry r e) es)
+run-over table t r [] = refl
+run-over table t r (e ∷ es) = rw (step-over table t r e) (run-over table t (step table r e) es)
 
 -- what every tally of three u32 satisfies
 pub record Fits (t : Tally) : Type 0 where
@@ -93,25 +93,25 @@ lentRun t s n = record { figures = t; count = n; store = s }
 
 -- taking a list of events one by one and counting each answer in a lent tally leaves count and store as without it, and adds the
 -- figures
-pub run-tallied : (entry : ℕ → ℕ → ℕ) (s : Bytes) (n : ℕ) (es : List Bytes) (t : Tally) → Fits t
-    → runOf entry (lentRun t s n) es ≡ over t (runOf entry (freshRun s n) es)
-run-tallied entry s n es t h =
-    ap (λ (u : Tally). runOf entry (lentRun u s n) es) (sym (over-none t h)) ∙ run-over entry t (freshRun s n) es
+pub run-tallied : (table s : Bytes) (n : ℕ) (es : List Bytes) (t : Tally) → Fits t
+    → runOf table (lentRun t s n) es ≡ over t (runOf table (freshRun s n) es)
+run-tallied table s n es t h =
+    ap (λ (u : Tally). runOf table (lentRun u s n) es) (sym (over-none t h)) ∙ run-over table t (freshRun s n) es
 
 -- the same of a bundle that is not refused: tally, count and store after it are those of the run that counts in the lent tally
-pub bundle-tallied : (entry : ℕ → ℕ → ℕ) (s : Bytes) (n : ℕ) (b : Bytes) (t f : Tally) → Fits t
-    → bundleOf entry s n b .answer ≡ value f
-    → runOf entry (lentRun t s n) (eventsIn b)
-    ≡ record { figures = tallied t (value f); count = bundleOf entry s n b .count; store = bundleOf entry s n b .store }
+pub bundle-tallied : (table s : Bytes) (n : ℕ) (b : Bytes) (t f : Tally) → Fits t
+    → bundleOf table s n b .answer ≡ value f
+    → runOf table (lentRun t s n) (eventsIn b)
+    ≡ record { figures = tallied t (value f); count = bundleOf table s n b .count; store = bundleOf table s n b .store }
 unfolding bundleOf tallied
-bundle-tallied entry s n b t f h p =
-    byOption (firstFailed (bundleTests entry s n b)) passed
+bundle-tallied table s n b t f h p =
+    byOption (firstFailed (bundleTests table s n b)) passed
     (λ k q. let z : refused k ≡ value f = rw q at p in let w : _≡_ {A = ℕ} 0 1 = cc in absurd (omega arith))
   where
-    passed : firstFailed (bundleTests entry s n b) ≡ none
-        → runOf entry (lentRun t s n) (eventsIn b)
-        ≡ record { figures = addFigures t f; count = bundleOf entry s n b .count; store = bundleOf entry s n b .store }
+    passed : firstFailed (bundleTests table s n b) ≡ none
+        → runOf table (lentRun t s n) (eventsIn b)
+        ≡ record { figures = addFigures t f; count = bundleOf table s n b .count; store = bundleOf table s n b .store }
     passed q =
-        let same : value (runOf entry (freshRun s n) (eventsIn b) .figures) ≡ value f = rw q at p in
-        let figures : runOf entry (freshRun s n) (eventsIn b) .figures ≡ f = cc in
-        rw (q, ← figures) (run-tallied entry s n (eventsIn b) t h)
+        let same : value (runOf table (freshRun s n) (eventsIn b) .figures) ≡ value f = rw q at p in
+        let figures : runOf table (freshRun s n) (eventsIn b) .figures ≡ f = cc in
+        rw (q, ← figures) (run-tallied table s n (eventsIn b) t h)

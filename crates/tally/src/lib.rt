@@ -1,9 +1,8 @@
 // Takes that count their answers in a tally that the caller lends. Each wrapper hands the tally by value to a function that
 // takes and counts, and writes back the tally that this returns. Rests on `takes`.
 ghost use mathlib.Core.Path.{_≡_};
-ghost use Rattle.cords.specs.Cords.{cordLimit};
-ghost use Rattle.takes.specs.Takes.{answerOfTake, answerOfBundle, takeOf, counted, bundleOf};
-ghost use Rattle.tally.specs.Tallies.{raisedBy, tallied};
+ghost use Rattle.takes.specs.Takes.{answerOfBundle, takenLeft, bundleLeft};
+ghost use Rattle.tally.specs.Tallies.{raisedBy, tallied, takeTallied, bundleTallied};
 use takes::BundleAnswer;
 use takes::BundleTaken;
 use takes::Taken;
@@ -16,26 +15,28 @@ pub struct Counted {
 }
 
 // Takes one event and counts the answer in a tally by value.
-pub fn take_with(store: &mut [u8], count: usize, e: &[u8], t: Tally) -> Counted
-    ensures { λ r. ⌜ (answerOfTake (r .taken .answer) ≡ takeOf cordLimit (now (store .entry)) count (now (e .entry)) .answer)
-        × (r .taken .count ≡ takeOf cordLimit (now (store .entry)) count (now (e .entry)) .count) ⌝ }
-    ensures { λ _. ⌜ now (store .exit) ≡ takeOf cordLimit (now (store .entry)) count (now (e .entry)) .store ⌝ }
-    ensures { λ r. ⌜ r .tally ≡ counted t (takeOf cordLimit (now (store .entry)) count (now (e .entry)) .answer) ⌝ }
+pub fn take_with(store: &mut [u8], count: usize, table: &[u8], e: &[u8], t: Tally) -> Counted
+    ensures { λ r. ⌜ takeTallied (now (table .entry)) (now (store .entry)) count (now (e .entry)) t
+        ≡ record { left = takenLeft (r .taken) (now (store .exit)); tally = r .tally } ⌝ }
 {
-    let taken = takes::take(store, count, e);
+    let taken = takes::take(store, count, table, e);
     let answer = taken.answer;
     let tally = takes::count_answer(t, answer);
     Counted { tally, taken }
 }
 
 // Takes one event and counts the answer in the caller's tally.
-pub fn take_counted(store: &mut [u8], count: usize, e: &[u8], tally: &mut Tally) -> Taken
-    ensures { λ r. ⌜ (answerOfTake (r .answer) ≡ takeOf cordLimit (now (store .entry)) count (now (e .entry)) .answer)
-        × (r .count ≡ takeOf cordLimit (now (store .entry)) count (now (e .entry)) .count) ⌝ }
-    ensures { λ _. ⌜ now (store .exit) ≡ takeOf cordLimit (now (store .entry)) count (now (e .entry)) .store ⌝ }
-    ensures { λ _. ⌜ now (tally .exit) ≡ counted (now (tally .entry)) (takeOf cordLimit (now (store .entry)) count (now (e .entry)) .answer) ⌝ }
+pub fn take_counted(
+    store: &mut [u8],
+    count: usize,
+    table: &[u8],
+    e: &[u8],
+    tally: &mut Tally,
+) -> Taken
+    ensures { λ r. ⌜ takeTallied (now (table .entry)) (now (store .entry)) count (now (e .entry)) (now (tally .entry))
+        ≡ record { left = takenLeft r (now (store .exit)); tally = now (tally .exit) } ⌝ }
 {
-    let done = take_with(store, count, e, *tally);
+    let done = take_with(store, count, table, e, *tally);
     *tally = done.tally;
     done.taken
 }
@@ -72,13 +73,17 @@ fn tally_answer(t: Tally, answer: BundleAnswer) -> Tally
 }
 
 // Takes a bundle and adds its figures to a tally by value.
-pub fn bundle_with(store: &mut [u8], count: usize, b: &[u8], t: Tally) -> CountedBundle
-    ensures { λ r. ⌜ (answerOfBundle (r .taken .answer) ≡ bundleOf cordLimit (now (store .entry)) count (now (b .entry)) .answer)
-        × (r .taken .count ≡ bundleOf cordLimit (now (store .entry)) count (now (b .entry)) .count) ⌝ }
-    ensures { λ _. ⌜ now (store .exit) ≡ bundleOf cordLimit (now (store .entry)) count (now (b .entry)) .store ⌝ }
-    ensures { λ r. ⌜ r .tally ≡ tallied t (bundleOf cordLimit (now (store .entry)) count (now (b .entry)) .answer) ⌝ }
+pub fn bundle_with(
+    store: &mut [u8],
+    count: usize,
+    table: &[u8],
+    b: &[u8],
+    t: Tally,
+) -> CountedBundle
+    ensures { λ r. ⌜ bundleTallied (now (table .entry)) (now (store .entry)) count (now (b .entry)) t
+        ≡ record { left = bundleLeft (r .taken) (now (store .exit)); tally = r .tally } ⌝ }
 {
-    let taken = takes::take_bundle(store, count, b);
+    let taken = takes::take_bundle(store, count, table, b);
     let answer = taken.answer;
     let tally = tally_answer(t, answer);
     CountedBundle { tally, taken }
@@ -88,15 +93,14 @@ pub fn bundle_with(store: &mut [u8], count: usize, b: &[u8], t: Tally) -> Counte
 pub fn take_bundle_counted(
     store: &mut [u8],
     count: usize,
+    table: &[u8],
     b: &[u8],
     tally: &mut Tally,
 ) -> BundleTaken
-    ensures { λ r. ⌜ (answerOfBundle (r .answer) ≡ bundleOf cordLimit (now (store .entry)) count (now (b .entry)) .answer)
-        × (r .count ≡ bundleOf cordLimit (now (store .entry)) count (now (b .entry)) .count) ⌝ }
-    ensures { λ _. ⌜ now (store .exit) ≡ bundleOf cordLimit (now (store .entry)) count (now (b .entry)) .store ⌝ }
-    ensures { λ _. ⌜ now (tally .exit) ≡ tallied (now (tally .entry)) (bundleOf cordLimit (now (store .entry)) count (now (b .entry)) .answer) ⌝ }
+    ensures { λ r. ⌜ bundleTallied (now (table .entry)) (now (store .entry)) count (now (b .entry)) (now (tally .entry))
+        ≡ record { left = bundleLeft r (now (store .exit)); tally = now (tally .exit) } ⌝ }
 {
-    let done = bundle_with(store, count, b, *tally);
+    let done = bundle_with(store, count, table, b, *tally);
     *tally = done.tally;
     done.taken
 }

@@ -9,7 +9,6 @@ use lib.ListN.{length, take, drop}
 use lib.Seq.{length-take-le, take-at}
 use Rattle.lists.specs.Cases.{byBool}
 use Rattle.lists.specs.Bytes.{Bytes}
-use Rattle.cords.specs.Cords.{cordLimit}
 use Rattle.event.specs.declared.Refusal.{Refusal}
 use Rattle.event.specs.Answers.{refused, numberOf, firstFailed}
 use Rattle.model.specs.Verdicts.{verdict}
@@ -23,11 +22,12 @@ use Rattle.cabling.specs.Ports.{linkIn}
 use Rattle.cabling.specs.Rows.{rowBytes, row-bytes-size, RowsWritten, map-bytes}
 use Rattle.text_format.specs.declared.Printed.{Printed}
 use Rattle.text_format.specs.Text.{roomText, textOf as textOfRows, answerOf, outputOf, answerOfPrinted}
-use Rattle.text_format.specs.RowLaws.{text-of-store}
+use Rattle.text_format.specs.RowLaws.{Octets, text-of-store}
 use Rattle.openers.specs.declared.LinkAnswer.{LinkAnswer}
 use Rattle.openers.specs.declared.LinkAnswer.the-variants.{Linked, Refused}
 use Rattle.openers.specs.Opened.{heldView, storeTests, numberOfLinked, LinkedTables, LinkedStore}
-use Rattle.reports.specs.AfterStoreTests.{passed-both, refused-early}
+use Rattle.reports.specs.AfterStoreTests.{passed-store, refused-early}
+use Rattle.reports.specs.Reports.{answered}
 use Rattle.reports.specs.HeldEntries.{held-entries}
 use Rattle.reports.specs.OpenedBytes.{entry-right}
 use Rattle.text.specs.Text.{textOf}
@@ -59,43 +59,46 @@ module _ {store : Bytes} {n : ℕ} {verdicts ports : List ℕ} {w : Ran} (t : Li
 
 -- ── the text ────────────────────────────────────────────────────────────────────────────────────────────────────────────
 
-module _ {store : Bytes} {n : ℕ} {verdicts ports : List ℕ} {r : LinkAnswer} (s : LinkedStore store n verdicts ports r) (out : Bytes) where
+module _ {table store : Bytes} {n : ℕ} {verdicts ports : List ℕ} {r : LinkAnswer}
+    (s : LinkedStore table store n verdicts ports r) (out : Bytes) where
   abbrev text : Bytes
   text = roomText (heldView store n)
 
-  pub text-refused : (k : Refusal) → r ≡ Refused k
-      → (refused (numberOf k) ≡ textOf cordLimit store n out .answer) × (out ≡ textOf cordLimit store n out .out)
+  pub text-refused : (k : Refusal) → r ≡ Refused k → answered (refused (numberOf k)) out ≡ textOf table store n out
   unfolding textOf
   text-refused k e =
-      refused-early cordLimit store n (length text) text out (numberOf k) (ap numberOfLinked (sym e) ∙ s .told)
+      refused-early table store n (length text) text out (numberOf k) (ap numberOfLinked (sym e) ∙ s .told)
 
   module _ {w : Ran} (told : r ≡ Linked w) where
-    passed : none ≡ firstFailed (storeTests cordLimit store n)
+    passed : none ≡ firstFailed (storeTests table store n)
     passed = ap numberOfLinked (sym told) ∙ s .told
 
-    same : {rows : Bytes} → rows ≡ rowBytes (machine (heldView store n) .links) → textOfRows rows (take n verdicts) ≡ text
-    same {rows} e =
-        text-of-store store n rows (take n verdicts) (passed-both cordLimit store n passed .1) (e ∙ sym (map-bytes (heldView store n)))
+    same : Octets table → {rows : Bytes} → rows ≡ rowBytes (machine (heldView store n) .links)
+        → textOfRows rows (take n verdicts) ≡ text
+    same bytes {rows} e =
+        text-of-store table bytes store n (passed-store table store n passed .1 .passes) rows (take n verdicts)
+        (e ∙ sym (map-bytes (heldView store n)))
         (held-entries store n (λ x. verdict (heldView store n) (x .ident)) 0 (take n verdicts) (verdict-each (s .left w told))
         (λ k h. entry-right (s .left w told .judged) refl h))
 
     -- 10 decides
-    whole : (answerOf text out ≡ textOf cordLimit store n out .answer) × (outputOf text out ≡ textOf cordLimit store n out .out)
+    whole : answered (answerOf text out) (outputOf text out) ≡ textOf table store n out
     unfolding answerOf outputOf textOf
     whole =
-        let both = passed-both cordLimit store n passed in
+        let good = passed-store table store n passed in
         byBool (leb (length text) (length out))
-        (λ t. rw (both .0, both .1, t) (refl, refl))
-        (λ f. rw (both .0, both .1, f) (refl, refl))
+        (λ t. rw (good .0, good .1 .lent, good .1 .passes, t) refl)
+        (λ f. rw (good .0, good .1 .lent, good .1 .passes, f) refl)
 
     -- p was printed of the k rows written
-    pub text-told : {k : ℕ} {rows₀ rows : Bytes} → RowsWritten (linkIn store) ports rows₀ rows k → length rows₀ ≡ 2048
+    pub text-told : Octets table
+        → {k : ℕ} {rows₀ rows : Bytes} → RowsWritten (linkIn store) ports rows₀ rows k → length rows₀ ≡ 2048
         → {p q : Printed} {left : Bytes} → p ≡ q
         → (answerOfPrinted p ≡ answerOf (textOfRows (take (k * 8) rows) (take n verdicts)) out)
         × (left ≡ outputOf (textOfRows (take (k * 8) rows) (take n verdicts)) out)
-        → (answerOfPrinted q ≡ textOf cordLimit store n out .answer) × (left ≡ textOf cordLimit store n out .out)
-    text-told wrote size e printed =
-        let here = same (rows-front (s .left w told) wrote size) in (
-          ap answerOfPrinted (sym e) ∙ printed .0 ∙ ap (λ (b : Bytes). answerOf b out) here ∙ whole .0,
-          printed .1 ∙ ap (λ (b : Bytes). outputOf b out) here ∙ whole .1,
-        )
+        → answered (answerOfPrinted q) left ≡ textOf table store n out
+    text-told bytes wrote size e printed =
+        let here = same bytes (rows-front (s .left w told) wrote size) in
+        let answer = ap answerOfPrinted (sym e) ∙ printed .0 ∙ ap (λ (b : Bytes). answerOf b out) here in
+        let now = printed .1 ∙ ap (λ (b : Bytes). outputOf b out) here in
+        (λ i. answered (answer i) (now i)) ∙ whole

@@ -1,19 +1,17 @@
--- The text of a store that passes check 2: the numbers of its map's rows fit the bytes of a row.
-use Prim.Native.Nat.{ℕ, zero, suc, _+_, _*_, _≤_, min}
+-- The text of a store that passes check 2 by a lent table of bytes: the numbers of its map's rows fit the bytes of a row.
+use Prim.Native.Nat.{ℕ, _+_, _*_, _<_}
 use native.Mathlib.Omega.{arith}
-use mathlib.Core.Path.{_≡_, refl, ap, _∙_, subst}
+use mathlib.Core.Path.{_≡_, ap, _∙_, subst}
 use mathlib.Core.Logic.{⊎-elim}
 use mathlib.Core.Bool.{Bool, true, false, _&&_}
 use mathlib.Core.Option.{none}
-use mathlib.Core.List.{List, [], _∷_, map, List·Memᴰ, List·Memᴰ·cases-cons, Memᴰ·of-map}
+use mathlib.Core.List.{List, map, List·Memᴰ, List·Memᴰ·cases-cons, Memᴰ·of-map}
 use lib.Dec.{eqb, leb, ltb}
-use lib.ListN.{getD}
 use borrow.Author.Tests.{eqb-true, leb-true}
-use Rattle.lists.specs.Cases.{byBool, clash, and→}
+use Rattle.lists.specs.Cases.{byBool, clash}
 use Rattle.lists.specs.Bytes.{Bytes}
-use Rattle.lists.specs.Tests.{allOf}
 use Rattle.octets.specs.Octets.{byteAt, be16, part}
-use Rattle.cords.specs.Cords.{family, grade, limits, entryOf, cordLimit}
+use Rattle.cords.specs.Lent.{lentEntry}
 use Rattle.event.specs.declared.Cord.{Cord}
 use Rattle.event.specs.declared.Body.{Body}
 use Rattle.event.specs.declared.Body.the-variants.{Create as create, Grant as grant, Revoke as revoke, Join as join, Unplug as unplug}
@@ -33,18 +31,16 @@ use Rattle.model.specs.Packing.{held-set}
 use Rattle.text_format.specs.Text.{textOf, roomText}
 use Rattle.text_format.specs.TextLaws.{Fits, text-of-set}
 
--- "Limits for grades 0 to 3": none is above 10,000
-most : (m : ℕ) (l : List ℕ) → allOf (λ x. leb x m) l ≡ true → (i : ℕ) → getD l i 0 ≤ m
-most m [] t i = omega arith
-most m (x ∷ xs) t zero = leb-true x m (and→ (leb x m) (allOf (λ y. leb y m) xs) t .0)
-most m (x ∷ xs) t (suc i) = most m xs (and→ (leb x m) (allOf (λ y. leb y m) xs) t .1) i
+-- every number of a list is a byte's, as it is where the code has the list
+abbrev pub Octets : Bytes → Type 0
+Octets s = (i : ℕ) → byteAt s i < 256
 
-limit-most : (a b : ℕ) → cordLimit a b ≤ 10000
-unfolding cordLimit entryOf
-limit-most a b =
+-- an entry of two bytes is below 65,536
+entry-low : (table : Bytes) → Octets table → (a b : ℕ) → lentEntry table a b < 65536
+unfolding lentEntry
+entry-low table bytes a b =
     byBool (ltb a 16 && ltb b 16)
-    (λ t. rw t (byBool (eqb (family a) (family b))
-    (λ u. rw u (most 10000 limits refl (family a * 4 + min (grade a) (grade b)))) (λ f. rw f (omega arith))))
+    (λ t. rw t (omega (arith, bytes (2 * (16 * a + b)), bytes (2 * (16 * a + b) + 1))))
     (λ f. rw f (omega arith))
 
 -- the cord of an event's bytes
@@ -79,44 +75,45 @@ join-cord : (x : Bytes) (c : Cord) → bodyOf x ≡ join c → cordIn x ≡ c
 unfolding bodyOf
 join-cord x c e = let q : joined c (bodyOf x) ≡ c = ap (joined c) e in rw (join-kind x c e) at q
 
-join-fits : (creator x : Bytes) (c : Cord) → refusal cordLimit creator x ≡ none → bodyOf x ≡ join c → Fits c
-unfolding cordGood
-join-fits creator x c r e =
-    let passed = passes→ cordLimit creator x r in
-    let cord = join-cord x c e in
-    let ports = join-ports x (passed .fields) (join-kind x c e) in
-    let short : leb (c .metres) (cordLimit (kindA c) (kindB c)) ≡ true = rw e at (passed .cord) in
-    let a : be16 x 8 ≡ portA c = ap (λ (y : Cord). portA y) cord in
-    let b : be16 x 10 ≡ portB c = ap (λ (y : Cord). portB y) cord in
-    record {
-      fits-a = omega (arith, ports .0, ports .1);
-      fits-b = omega (arith, ports .1);
-      fits-metres = omega (arith, leb-true (c .metres) (cordLimit (kindA c) (kindB c)) short, limit-most (kindA c) (kindB c));
-    }
-
 creator-joins : (x : Bytes) (c : Cord) → creatorGood x ≡ true → bodyOf x ≡ join c → ⊥
 creator-joins x c g e =
     let a = eqb-true (kindOf x) 0 (creator→ x g .0) in
     let b = join-kind x c e in
     omega arith
 
-pub rows-fit : (store : Bytes) (count : ℕ) → storeGood cordLimit store count ≡ true
-    → (c : Cord) → List·Memᴰ c (mapRows (view (heldIn store count))) → Fits c
-unfolding heldIn eventOf
-rows-fit store count t c m =
-    let checked = checked→ cordLimit store count t in
-    let held = checked-held cordLimit store count checked in
-    let r = row-by (heldIn store count) (held-set cordLimit store count t .1 .distinct) c m in
-    let w = Memᴰ·of-map eventOf (places store count) (r .held) in
-    let e : bodyOf (w .0) ≡ join c = ap (λ (y : Event). y .body) (w .2) ∙ r .joins in
-    ⊎-elim
-    (λ q. absurd (creator-joins (part store 0 192) c (held .creator-good) (subst (λ (y : Bytes). bodyOf y ≡ join c) q e)))
-    (λ n. join-fits (part store 0 192) (w .0) c (later→ cordLimit (part store 0 192) (w .0) (held .others-good (w .0) n) .1) e)
-    (List·Memᴰ·cases-cons (subst (List·Memᴰ (w .0)) (places-first store count (checked .at-least)) (w .1)))
+module _ (table : Bytes) (bytes : Octets table) where
+  join-fits : (creator x : Bytes) (c : Cord) → refusal (lentEntry table) creator x ≡ none → bodyOf x ≡ join c → Fits c
+  unfolding cordGood
+  join-fits creator x c r e =
+      let passed = passes→ (lentEntry table) creator x r in
+      let cord = join-cord x c e in
+      let ports = join-ports x (passed .fields) (join-kind x c e) in
+      let short : leb (c .metres) (lentEntry table (kindA c) (kindB c)) ≡ true = rw e at (passed .cord) in
+      let a : be16 x 8 ≡ portA c = ap (λ (y : Cord). portA y) cord in
+      let b : be16 x 10 ≡ portB c = ap (λ (y : Cord). portB y) cord in
+      record {
+        fits-a = omega (arith, ports .0, ports .1);
+        fits-b = omega (arith, ports .1);
+        fits-metres =
+            omega (arith, leb-true (c .metres) (lentEntry table (kindA c) (kindB c)) short, entry-low table bytes (kindA c) (kindB c));
+      }
 
--- the map call's rows and the verdicts of the held events give the text of the held set
-pub text-of-store : (store : Bytes) (count : ℕ) (rows : Bytes) (verdicts : List ℕ) → storeGood cordLimit store count ≡ true
-    → rows ≡ mapBytes (view (heldIn store count))
-    → verdicts ≡ map (λ e. verdict (view (heldIn store count)) (e .ident)) (heldIn store count)
-    → textOf rows verdicts ≡ roomText (view (heldIn store count))
-text-of-store store count rows verdicts t p q = text-of-set (heldIn store count) rows verdicts p q (rows-fit store count t)
+  module _ (store : Bytes) (count : ℕ) (good : storeGood (lentEntry table) store count ≡ true) where
+    pub rows-fit : (c : Cord) → List·Memᴰ c (mapRows (view (heldIn store count))) → Fits c
+    unfolding heldIn eventOf
+    rows-fit c m =
+        let checked = checked→ (lentEntry table) store count good in
+        let held = checked-held (lentEntry table) store count checked in
+        let r = row-by (heldIn store count) (held-set (lentEntry table) store count good .1 .distinct) c m in
+        let w = Memᴰ·of-map eventOf (places store count) (r .held) in
+        let e : bodyOf (w .0) ≡ join c = ap (λ (y : Event). y .body) (w .2) ∙ r .joins in
+        ⊎-elim
+        (λ q. absurd (creator-joins (part store 0 192) c (held .creator-good) (subst (λ (y : Bytes). bodyOf y ≡ join c) q e)))
+        (λ n. join-fits (part store 0 192) (w .0) c (later→ (lentEntry table) (part store 0 192) (w .0) (held .others-good (w .0) n) .1) e)
+        (List·Memᴰ·cases-cons (subst (List·Memᴰ (w .0)) (places-first store count (checked .at-least)) (w .1)))
+
+    -- the map call's rows and the verdicts of the held events give the text of the held set
+    pub text-of-store : (rows : Bytes) (verdicts : List ℕ) → rows ≡ mapBytes (view (heldIn store count))
+        → verdicts ≡ map (λ e. verdict (view (heldIn store count)) (e .ident)) (heldIn store count)
+        → textOf rows verdicts ≡ roomText (view (heldIn store count))
+    text-of-store rows verdicts p q = text-of-set (heldIn store count) rows verdicts p q rows-fit

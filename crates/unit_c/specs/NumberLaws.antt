@@ -5,7 +5,8 @@ use mathlib.Core.Path.{_≡_, refl, sym, ap, _∙_}
 use mathlib.Core.Bool.{Bool, true, false, not, _&&_}
 use mathlib.Core.Option.{some, Option·none-ne-some, Option·some-injective}
 use mathlib.Core.List.{List, [], _∷_}
-use lib.Dec.{eqb, ltb}
+use lib.Dec.{eqb, leb, ltb}
+use lib.ListN.{length}
 use Rattle.lists.specs.Cases.{byBool, byOption, clash, and→}
 use Rattle.lists.specs.Bytes.{Bytes}
 use Rattle.lists.specs.Tests.{memberOf}
@@ -18,7 +19,7 @@ use Rattle.takes.specs.Takes.{startTests, startOf, takeTests, takeAnswer, takeO
 use Rattle.takes.specs.TakeLaws.{take-answers}
 use Rattle.reports.specs.Reports.{heldView, writeTests, verdictTests, report, orderOf, mapOf, writtenOf, verdictOf}
 use Rattle.text.specs.Text.{roomText, textOf}
-use Rattle.unit_c.specs.Numbers.{idTests, idOf, idsTests, idsOf}
+use Rattle.unit_c.specs.Numbers.{documentOf, idTests, idOf, idsTests, idsOf}
 
 -- a number that is given out with a refusal: neither 0 nor 11
 abbrev pub givenOut : ℕ → Bool
@@ -58,62 +59,66 @@ report-numbered tests p a bytes out =
     byOption (firstFailed tests) (λ e. rw e) (λ n e. rw e (failed-given-out tests p n e))
 
 -- the answers of the calls, each by its list of tests
-module _ (entry : ℕ → ℕ → ℕ) (store : Bytes) (count : ℕ) where
-  pub take-numbered : (e : Bytes) → numbered (takeOf entry store count e .answer) ≡ true
+module _ (table store : Bytes) (count : ℕ) where
+  pub take-numbered : (e : Bytes) → numbered (takeOf table store count e .answer) ≡ true
   unfolding takeAnswer
   take-numbered e =
-      rw (take-answers entry store count e)
-      (byOption (firstFailed (takeTests entry store count e))
+      rw (take-answers table store count e)
+      (byOption (firstFailed (takeTests table store count e))
       (λ p.
       rw p
       (byBool (memberOf (sha256 e) (heldIds store count))
       (λ t. rw t)
       (λ f. rw f (byBool (ltb count 256) (λ t. rw t) (λ g. rw g)))))
-      (λ n p. rw p (failed-given-out (takeTests entry store count e) refl n p)))
+      (λ n p. rw p (failed-given-out (takeTests table store count e) refl n p)))
 
-  pub bundle-numbered : (b : Bytes) → numbered (bundleOf entry store count b .answer) ≡ true
+  pub bundle-numbered : (b : Bytes) → numbered (bundleOf table store count b .answer) ≡ true
   unfolding bundleOf
   bundle-numbered b =
-      byOption (firstFailed (bundleTests entry store count b)) (λ p. rw p) (λ n p. rw p (failed-given-out (bundleTests entry store count b) refl n p))
+      byOption (firstFailed (bundleTests table store count b)) (λ p. rw p) (λ n p. rw p (failed-given-out (bundleTests table store count b) refl n p))
 
-  pub look-up-numbered : (id : Bytes) → numbered (lookUpOf entry store count id) ≡ true
+  pub look-up-numbered : (id : Bytes) → numbered (lookUpOf table store count id) ≡ true
   unfolding lookUpOf
   look-up-numbered id =
-      byOption (firstFailed (lookUpTests entry store count id)) (λ p. rw p) (λ n p. rw p (failed-given-out (lookUpTests entry store count id) refl n p))
+      byOption (firstFailed (lookUpTests table store count id)) (λ p. rw p) (λ n p. rw p (failed-given-out (lookUpTests table store count id) refl n p))
 
-  pub verdict-numbered : (id : Bytes) → numbered (verdictOf entry store count id) ≡ true
+  pub verdict-numbered : (id : Bytes) → numbered (verdictOf table store count id) ≡ true
   unfolding verdictOf
   verdict-numbered id =
-      byOption (firstFailed (verdictTests entry store count id)) (λ p. rw p) (λ n p. rw p (failed-given-out (verdictTests entry store count id) refl n p))
+      byOption (firstFailed (verdictTests table store count id)) (λ p. rw p) (λ n p. rw p (failed-given-out (verdictTests table store count id) refl n p))
 
   module _ (out : Bytes) where
     abbrev writes : Bytes → List Test
-    writes bytes = writeTests entry store count bytes out
+    writes bytes = writeTests table store count bytes out
 
-    pub order-numbered : numbered (orderOf entry store count out .answer) ≡ true
+    pub order-numbered : numbered (orderOf table store count out .answer) ≡ true
     unfolding orderOf
     order-numbered = report-numbered (writes (orderBytes (heldView store count))) refl _ _ out
 
-    pub map-numbered : numbered (mapOf entry store count out .answer) ≡ true
+    pub map-numbered : numbered (mapOf table store count out .answer) ≡ true
     unfolding mapOf
     map-numbered = report-numbered (writes (mapBytes (heldView store count))) refl _ _ out
 
-    pub write-out-numbered : numbered (writtenOf entry store count out .answer) ≡ true
+    pub write-out-numbered : numbered (writtenOf table store count out .answer) ≡ true
     unfolding writtenOf
     write-out-numbered = report-numbered (writes (writtenBytes (heldView store count))) refl _ _ out
 
-    pub text-numbered : numbered (textOf entry store count out .answer) ≡ true
+    pub text-numbered : numbered (textOf table store count out .answer) ≡ true
     unfolding textOf
     text-numbered = report-numbered (writes (roomText (heldView store count))) refl _ _ out
 
-pub start-numbered : (store e : Bytes) → numbered (startOf store e .answer) ≡ true
+pub start-numbered : (table store e : Bytes) → numbered (startOf table store e .answer) ≡ true
 unfolding startOf
-start-numbered store e =
-    byOption (firstFailed (startTests store e)) (λ p. rw p) (λ n p. rw p (failed-given-out (startTests store e) refl n p))
+start-numbered table store e =
+    byOption (firstFailed (startTests table store e)) (λ p. rw p) (λ n p. rw p (failed-given-out (startTests table store e) refl n p))
 
 pub first-numbered : (b : Bytes) → numbered (firstOf b) ≡ true
 unfolding firstOf
 first-numbered b = byOption (firstFailed (firstTests b)) (λ p. rw p) (λ n p. rw p (failed-given-out (firstTests b) refl n p))
+
+pub document-numbered : (out : Bytes) → numbered (documentOf out .answer) ≡ true
+unfolding documentOf
+document-numbered out = report-numbered (must 10 (leb 512 (length out)) ∷ []) refl _ _ out
 
 pub id-numbered : (event out : Bytes) → numbered (idOf event out .answer) ≡ true
 unfolding idOf

@@ -1,18 +1,35 @@
 // The unit's calls for C: numbers and byte slices, a slice as a pointer and a length. All have one order of parameters: the store,
-// its count, what is offered or asked, the output, the numbers answered, the tally. Each function returns 0, or the refusal's number
-// of document 01; what it answers besides goes to numbers behind pointers, which a refusal leaves as they were, but for the count of
+// its count, the cord table, what is offered or asked, the output, the numbers answered, the tally. Each function returns 0, or the
+// refusal's number of document 01; what it answers besides goes to numbers behind pointers, which a refusal leaves as they were, but for the count of
 // a refused start, which is 0. Each makes one call of `unit`, or of the crate below it that answers by value, and shows the answer;
 // `include/pelchunda.h` declares them.
 ghost use mathlib.Core.Path.{_≡_};
-ghost use Rattle.cords.specs.Cords.{cordLimit};
+ghost use mathlib.Core.List.{[], _∷_, _++_};
 ghost use Rattle.event.specs.Answers.{shownNumber};
 ghost use Rattle.store.specs.LookUp.{lookUpOf};
 ghost use Rattle.bundles.specs.FirstEvent.{firstOf};
-ghost use Rattle.takes.specs.Takes.{answerOfTake, answerOfBundle, startOf, takeOf, counted, bundleOf};
-ghost use Rattle.tally.specs.Tallies.{tallied};
+ghost use Rattle.takes.specs.Takes.{answerOfTake, answerOfBundle, startOf, takeOf, bundleOf};
+ghost use Rattle.tally.specs.Tallies.{takeTallied, bundleTallied};
 ghost use Rattle.reports.specs.Reports.{orderOf, verdictOf, mapOf, writtenOf, answerOfCount};
 ghost use Rattle.text.specs.Text.{textOf};
-ghost use Rattle.unit_c.specs.Numbers.{kept, placedNumber, figureList, tallyIn, idOf, idsOf, version};
+ghost use Rattle.unit_c.specs.Numbers.{
+  kept,
+  placedNumber,
+  figureList,
+  tallyIn,
+  showValue,
+  showCount,
+  showOutput,
+  showMap,
+  showStart,
+  showTake,
+  showBundle,
+  showTallied,
+  documentOf,
+  idOf,
+  idsOf,
+  version,
+};
 use bundles::FirstAnswer;
 use store::FindAnswer;
 use unit::BundleAnswer;
@@ -23,7 +40,7 @@ use unit::Tally;
 use unit::VerdictAnswer;
 
 // The version of these functions; the header has the same (`PELCHUNDA_VERSION_NUMBER`).
-const VERSION: u32 = 10100;
+const VERSION: u32 = 20000;
 
 // The version of the library that is linked, for a caller who compares it with the header's.
 #[no_mangle]
@@ -96,14 +113,31 @@ fn show_count(answer: CountAnswer, count: &mut usize) -> u8
     }
 }
 
+// Writes document 01's cord table, 512 bytes, to the front of the output.
+#[no_mangle]
+pub extern "C" fn pelchunda_document_table(out: &mut [u8]) -> u8
+    ensures { λ r. ⌜ showOutput (documentOf (now (out .entry))) ≡ record { number = r; buffer = now (out .exit); behind = [] } ⌝ }
+{
+    if out.len() < cords::TABLE_BYTES {
+        return 10;
+    }
+    let table = unit::document_table();
+    octets::paste(out, 0, &table);
+    0
+}
+
 // Starts a unit with a create event; the count is then 1, and 0 after a refusal.
 #[no_mangle]
-pub extern "C" fn pelchunda_start(store: &mut [u8], count: &mut usize, event: &[u8]) -> u8
-    ensures { λ r. ⌜ r ≡ shownNumber (startOf (now (store .entry)) (now (event .entry)) .answer) ⌝ }
-    ensures { λ _. ⌜ now (store .exit) ≡ startOf (now (store .entry)) (now (event .entry)) .store ⌝ }
-    ensures { λ _. ⌜ now (count .exit) ≡ startOf (now (store .entry)) (now (event .entry)) .count ⌝ }
+pub extern "C" fn pelchunda_start(
+    store: &mut [u8],
+    count: &mut usize,
+    table: &[u8],
+    event: &[u8],
+) -> u8
+    ensures { λ r. ⌜ showStart (startOf (now (table .entry)) (now (store .entry)) (now (event .entry)))
+        ≡ record { number = r; buffer = now (store .exit); behind = now (count .exit) ∷ [] } ⌝ }
 {
-    let started = unit::start(store, event);
+    let started = unit::start(store, table, event);
     *count = started.count;
     let answer = started.answer;
     match answer {
@@ -118,16 +152,14 @@ pub extern "C" fn pelchunda_start(store: &mut [u8], count: &mut usize, event: &[
 pub extern "C" fn pelchunda_take(
     store: &mut [u8],
     count: &mut usize,
+    table: &[u8],
     event: &[u8],
     repeat: &mut u8,
 ) -> u8
-    ensures { λ r. ⌜ r ≡ shownNumber (takeOf cordLimit (now (store .entry)) (now (count .entry)) (now (event .entry)) .answer) ⌝ }
-    ensures { λ _. ⌜ now (store .exit) ≡ takeOf cordLimit (now (store .entry)) (now (count .entry)) (now (event .entry)) .store ⌝ }
-    ensures { λ _. ⌜ now (count .exit) ≡ takeOf cordLimit (now (store .entry)) (now (count .entry)) (now (event .entry)) .count ⌝ }
-    ensures { λ _. ⌜ now (repeat .exit)
-        ≡ kept placedNumber (now (repeat .entry)) (takeOf cordLimit (now (store .entry)) (now (count .entry)) (now (event .entry)) .answer) ⌝ }
+    ensures { λ r. ⌜ showTake (now (repeat .entry)) (takeOf (now (table .entry)) (now (store .entry)) (now (count .entry)) (now (event .entry)))
+        ≡ record { number = r; buffer = now (store .exit); behind = now (count .exit) ∷ now (repeat .exit) ∷ [] } ⌝ }
 {
-    let taken = unit::take(store, *count, event);
+    let taken = unit::take(store, *count, table, event);
     *count = taken.count;
     let answer = taken.answer;
     show_placed(answer, repeat)
@@ -138,20 +170,17 @@ pub extern "C" fn pelchunda_take(
 pub extern "C" fn pelchunda_take_counted(
     store: &mut [u8],
     count: &mut usize,
+    table: &[u8],
     event: &[u8],
     repeat: &mut u8,
     tally: &mut [u32; 3],
 ) -> u8
-    ensures { λ r. ⌜ r ≡ shownNumber (takeOf cordLimit (now (store .entry)) (now (count .entry)) (now (event .entry)) .answer) ⌝ }
-    ensures { λ _. ⌜ now (store .exit) ≡ takeOf cordLimit (now (store .entry)) (now (count .entry)) (now (event .entry)) .store ⌝ }
-    ensures { λ _. ⌜ now (count .exit) ≡ takeOf cordLimit (now (store .entry)) (now (count .entry)) (now (event .entry)) .count ⌝ }
-    ensures { λ _. ⌜ now (repeat .exit)
-        ≡ kept placedNumber (now (repeat .entry)) (takeOf cordLimit (now (store .entry)) (now (count .entry)) (now (event .entry)) .answer) ⌝ }
-    ensures { λ _. ⌜ now (tally .exit)
-        ≡ figureList (counted (tallyIn (now (tally .entry))) (takeOf cordLimit (now (store .entry)) (now (count .entry)) (now (event .entry)) .answer)) ⌝ }
+    ensures { λ r. ⌜ showTallied (showTake (now (repeat .entry)))
+        (takeTallied (now (table .entry)) (now (store .entry)) (now (count .entry)) (now (event .entry)) (tallyIn (now (tally .entry))))
+        ≡ record { number = r; buffer = now (store .exit); behind = now (count .exit) ∷ now (repeat .exit) ∷ now (tally .exit) } ⌝ }
 {
     let before = to_tally(*tally);
-    let done = tally::take_with(store, *count, event, before);
+    let done = tally::take_with(store, *count, table, event, before);
     let after = done.tally;
     *tally = to_figures(after);
     let taken = done.taken;
@@ -165,16 +194,15 @@ pub extern "C" fn pelchunda_take_counted(
 pub extern "C" fn pelchunda_take_bundle(
     store: &mut [u8],
     count: &mut usize,
+    table: &[u8],
     bundle: &[u8],
     figures: &mut [u32; 3],
 ) -> u8
-    ensures { λ r. ⌜ r ≡ shownNumber (bundleOf cordLimit (now (store .entry)) (now (count .entry)) (now (bundle .entry)) .answer) ⌝ }
-    ensures { λ _. ⌜ now (store .exit) ≡ bundleOf cordLimit (now (store .entry)) (now (count .entry)) (now (bundle .entry)) .store ⌝ }
-    ensures { λ _. ⌜ now (count .exit) ≡ bundleOf cordLimit (now (store .entry)) (now (count .entry)) (now (bundle .entry)) .count ⌝ }
-    ensures { λ _. ⌜ now (figures .exit)
-        ≡ kept figureList (now (figures .entry)) (bundleOf cordLimit (now (store .entry)) (now (count .entry)) (now (bundle .entry)) .answer) ⌝ }
+    ensures { λ r. ⌜ showBundle (now (figures .entry))
+        (bundleOf (now (table .entry)) (now (store .entry)) (now (count .entry)) (now (bundle .entry)))
+        ≡ record { number = r; buffer = now (store .exit); behind = now (count .exit) ∷ now (figures .exit) } ⌝ }
 {
-    let left = unit::take_bundle(store, *count, bundle);
+    let left = unit::take_bundle(store, *count, table, bundle);
     *count = left.count;
     let answer = left.answer;
     show_figures(answer, figures)
@@ -185,20 +213,17 @@ pub extern "C" fn pelchunda_take_bundle(
 pub extern "C" fn pelchunda_take_bundle_counted(
     store: &mut [u8],
     count: &mut usize,
+    table: &[u8],
     bundle: &[u8],
     figures: &mut [u32; 3],
     tally: &mut [u32; 3],
 ) -> u8
-    ensures { λ r. ⌜ r ≡ shownNumber (bundleOf cordLimit (now (store .entry)) (now (count .entry)) (now (bundle .entry)) .answer) ⌝ }
-    ensures { λ _. ⌜ now (store .exit) ≡ bundleOf cordLimit (now (store .entry)) (now (count .entry)) (now (bundle .entry)) .store ⌝ }
-    ensures { λ _. ⌜ now (count .exit) ≡ bundleOf cordLimit (now (store .entry)) (now (count .entry)) (now (bundle .entry)) .count ⌝ }
-    ensures { λ _. ⌜ now (figures .exit)
-        ≡ kept figureList (now (figures .entry)) (bundleOf cordLimit (now (store .entry)) (now (count .entry)) (now (bundle .entry)) .answer) ⌝ }
-    ensures { λ _. ⌜ now (tally .exit)
-        ≡ figureList (tallied (tallyIn (now (tally .entry))) (bundleOf cordLimit (now (store .entry)) (now (count .entry)) (now (bundle .entry)) .answer)) ⌝ }
+    ensures { λ r. ⌜ showTallied (showBundle (now (figures .entry)))
+        (bundleTallied (now (table .entry)) (now (store .entry)) (now (count .entry)) (now (bundle .entry)) (tallyIn (now (tally .entry))))
+        ≡ record { number = r; buffer = now (store .exit); behind = now (count .exit) ∷ (now (figures .exit) ++ now (tally .exit)) } ⌝ }
 {
     let before = to_tally(*tally);
-    let done = tally::bundle_with(store, *count, bundle, before);
+    let done = tally::bundle_with(store, *count, table, bundle, before);
     let after = done.tally;
     *tally = to_figures(after);
     let taken = done.taken;
@@ -212,14 +237,14 @@ pub extern "C" fn pelchunda_take_bundle_counted(
 pub extern "C" fn pelchunda_order(
     store: &[u8],
     count: usize,
+    table: &[u8],
     out: &mut [u8],
     rows: &mut usize,
 ) -> u8
-    ensures { λ r. ⌜ r ≡ shownNumber (orderOf cordLimit (now (store .entry)) count (now (out .entry)) .answer) ⌝ }
-    ensures { λ _. ⌜ now (out .exit) ≡ orderOf cordLimit (now (store .entry)) count (now (out .entry)) .out ⌝ }
-    ensures { λ _. ⌜ now (rows .exit) ≡ kept (λ n. n) (now (rows .entry)) (orderOf cordLimit (now (store .entry)) count (now (out .entry)) .answer) ⌝ }
+    ensures { λ r. ⌜ showCount (now (rows .entry)) (orderOf (now (table .entry)) (now (store .entry)) count (now (out .entry)))
+        ≡ record { number = r; buffer = now (out .exit); behind = now (rows .exit) ∷ [] } ⌝ }
 {
-    let answer = unit::order(store, count, out);
+    let answer = unit::order(store, count, table, out);
     show_count(answer, rows)
 }
 
@@ -228,18 +253,17 @@ pub extern "C" fn pelchunda_order(
 pub extern "C" fn pelchunda_map(
     store: &[u8],
     count: usize,
+    table: &[u8],
     out: &mut [u8],
     rows: &mut usize,
     ended: &mut usize,
     joins: &mut usize,
 ) -> u8
-    ensures { λ r. ⌜ r ≡ shownNumber (mapOf cordLimit (now (store .entry)) count (now (out .entry)) .answer) ⌝ }
-    ensures { λ _. ⌜ now (out .exit) ≡ mapOf cordLimit (now (store .entry)) count (now (out .entry)) .out ⌝ }
-    ensures { λ _. ⌜ now (rows .exit) ≡ kept (λ f. f .rows) (now (rows .entry)) (mapOf cordLimit (now (store .entry)) count (now (out .entry)) .answer) ⌝ }
-    ensures { λ _. ⌜ now (ended .exit) ≡ kept (λ f. f .ended) (now (ended .entry)) (mapOf cordLimit (now (store .entry)) count (now (out .entry)) .answer) ⌝ }
-    ensures { λ _. ⌜ now (joins .exit) ≡ kept (λ f. f .joins) (now (joins .entry)) (mapOf cordLimit (now (store .entry)) count (now (out .entry)) .answer) ⌝ }
+    ensures { λ r. ⌜ showMap (now (rows .entry) ∷ now (ended .entry) ∷ now (joins .entry) ∷ [])
+        (mapOf (now (table .entry)) (now (store .entry)) count (now (out .entry)))
+        ≡ record { number = r; buffer = now (out .exit); behind = now (rows .exit) ∷ now (ended .exit) ∷ now (joins .exit) ∷ [] } ⌝ }
 {
-    match unit::map(store, count, out) {
+    match unit::map(store, count, table, out) {
         MapAnswer::Map(figures) => {
             *rows = figures.rows;
             *ended = figures.ended;
@@ -255,14 +279,14 @@ pub extern "C" fn pelchunda_map(
 pub extern "C" fn pelchunda_write_out(
     store: &[u8],
     count: usize,
+    table: &[u8],
     out: &mut [u8],
     bytes: &mut usize,
 ) -> u8
-    ensures { λ r. ⌜ r ≡ shownNumber (writtenOf cordLimit (now (store .entry)) count (now (out .entry)) .answer) ⌝ }
-    ensures { λ _. ⌜ now (out .exit) ≡ writtenOf cordLimit (now (store .entry)) count (now (out .entry)) .out ⌝ }
-    ensures { λ _. ⌜ now (bytes .exit) ≡ kept (λ n. n) (now (bytes .entry)) (writtenOf cordLimit (now (store .entry)) count (now (out .entry)) .answer) ⌝ }
+    ensures { λ r. ⌜ showCount (now (bytes .entry)) (writtenOf (now (table .entry)) (now (store .entry)) count (now (out .entry)))
+        ≡ record { number = r; buffer = now (out .exit); behind = now (bytes .exit) ∷ [] } ⌝ }
 {
-    let answer = unit::write_out(store, count, out);
+    let answer = unit::write_out(store, count, table, out);
     show_count(answer, bytes)
 }
 
@@ -271,24 +295,30 @@ pub extern "C" fn pelchunda_write_out(
 pub extern "C" fn pelchunda_text(
     store: &[u8],
     count: usize,
+    table: &[u8],
     out: &mut [u8],
     bytes: &mut usize,
 ) -> u8
-    ensures { λ r. ⌜ r ≡ shownNumber (textOf cordLimit (now (store .entry)) count (now (out .entry)) .answer) ⌝ }
-    ensures { λ _. ⌜ now (out .exit) ≡ textOf cordLimit (now (store .entry)) count (now (out .entry)) .out ⌝ }
-    ensures { λ _. ⌜ now (bytes .exit) ≡ kept (λ n. n) (now (bytes .entry)) (textOf cordLimit (now (store .entry)) count (now (out .entry)) .answer) ⌝ }
+    ensures { λ r. ⌜ showCount (now (bytes .entry)) (textOf (now (table .entry)) (now (store .entry)) count (now (out .entry)))
+        ≡ record { number = r; buffer = now (out .exit); behind = now (bytes .exit) ∷ [] } ⌝ }
 {
-    let answer = unit::text(store, count, out);
+    let answer = unit::text(store, count, table, out);
     show_count(answer, bytes)
 }
 
 // The place of the held event with an id: its 192 bytes start at 192 times the place.
 #[no_mangle]
-pub extern "C" fn pelchunda_look_up(store: &[u8], count: usize, id: &[u8], place: &mut u16) -> u8
-    ensures { λ r. ⌜ r ≡ shownNumber (lookUpOf cordLimit (now (store .entry)) count (now (id .entry))) ⌝ }
-    ensures { λ _. ⌜ now (place .exit) ≡ kept (λ p. p) (now (place .entry)) (lookUpOf cordLimit (now (store .entry)) count (now (id .entry))) ⌝ }
+pub extern "C" fn pelchunda_look_up(
+    store: &[u8],
+    count: usize,
+    table: &[u8],
+    id: &[u8],
+    place: &mut u16,
+) -> u8
+    ensures { λ r. ⌜ showValue (now (place .entry)) (lookUpOf (now (table .entry)) (now (store .entry)) count (now (id .entry)))
+        ≡ record { number = r; buffer = []; behind = now (place .exit) ∷ [] } ⌝ }
 {
-    match store::find(store, count, id) {
+    match store::find(store, count, table, id) {
         FindAnswer::Place(found) => {
             *place = found;
             0
@@ -299,11 +329,17 @@ pub extern "C" fn pelchunda_look_up(store: &[u8], count: usize, id: &[u8], place
 
 // The verdict of the held event with an id: 0 waiting, 1 unsound, 2 void, 3 effective.
 #[no_mangle]
-pub extern "C" fn pelchunda_verdict(store: &[u8], count: usize, id: &[u8], verdict: &mut u8) -> u8
-    ensures { λ r. ⌜ r ≡ shownNumber (verdictOf cordLimit (now (store .entry)) count (now (id .entry))) ⌝ }
-    ensures { λ _. ⌜ now (verdict .exit) ≡ kept (λ n. n) (now (verdict .entry)) (verdictOf cordLimit (now (store .entry)) count (now (id .entry))) ⌝ }
+pub extern "C" fn pelchunda_verdict(
+    store: &[u8],
+    count: usize,
+    table: &[u8],
+    id: &[u8],
+    verdict: &mut u8,
+) -> u8
+    ensures { λ r. ⌜ showValue (now (verdict .entry)) (verdictOf (now (table .entry)) (now (store .entry)) count (now (id .entry)))
+        ≡ record { number = r; buffer = []; behind = now (verdict .exit) ∷ [] } ⌝ }
 {
-    match unit::verdict(store, count, id) {
+    match unit::verdict(store, count, table, id) {
         VerdictAnswer::Verdict(found) => {
             *verdict = found;
             0
@@ -315,8 +351,8 @@ pub extern "C" fn pelchunda_verdict(store: &[u8], count: usize, id: &[u8], verdi
 // Where the first event of a bundle starts: its 192 bytes are at that offset.
 #[no_mangle]
 pub extern "C" fn pelchunda_first_event(bundle: &[u8], offset: &mut usize) -> u8
-    ensures { λ r. ⌜ r ≡ shownNumber (firstOf (now (bundle .entry))) ⌝ }
-    ensures { λ _. ⌜ now (offset .exit) ≡ kept (λ n. n) (now (offset .entry)) (firstOf (now (bundle .entry))) ⌝ }
+    ensures { λ r. ⌜ showValue (now (offset .entry)) (firstOf (now (bundle .entry)))
+        ≡ record { number = r; buffer = []; behind = now (offset .exit) ∷ [] } ⌝ }
 {
     match bundles::find_first(bundle) {
         FirstAnswer::Offset(at) => {
@@ -330,8 +366,7 @@ pub extern "C" fn pelchunda_first_event(bundle: &[u8], offset: &mut usize) -> u8
 // Writes the id of an event to the front of `id`: the SHA-256 of its 192 bytes.
 #[no_mangle]
 pub extern "C" fn pelchunda_id(event: &[u8], id: &mut [u8]) -> u8
-    ensures { λ r. ⌜ r ≡ shownNumber (idOf (now (event .entry)) (now (id .entry)) .answer) ⌝ }
-    ensures { λ _. ⌜ now (id .exit) ≡ idOf (now (event .entry)) (now (id .entry)) .out ⌝ }
+    ensures { λ r. ⌜ showOutput (idOf (now (event .entry)) (now (id .entry))) ≡ record { number = r; buffer = now (id .exit); behind = [] } ⌝ }
 {
     if event.len() != event::EVENT_BYTES {
         return 1;
@@ -347,8 +382,7 @@ pub extern "C" fn pelchunda_id(event: &[u8], id: &mut [u8]) -> u8
 // Writes the ids of at most 256 events, each of 192 bytes, to the front of `ids`: side by side, so in less time than one by one.
 #[no_mangle]
 pub extern "C" fn pelchunda_ids(events: &[u8], ids: &mut [u8]) -> u8
-    ensures { λ r. ⌜ r ≡ shownNumber (idsOf (now (events .entry)) (now (ids .entry)) .answer) ⌝ }
-    ensures { λ _. ⌜ now (ids .exit) ≡ idsOf (now (events .entry)) (now (ids .entry)) .out ⌝ }
+    ensures { λ r. ⌜ showOutput (idsOf (now (events .entry)) (now (ids .entry))) ≡ record { number = r; buffer = now (ids .exit); behind = [] } ⌝ }
 {
     let n = events.len() / event::EVENT_BYTES;
     if !((events.len() == n * event::EVENT_BYTES) & (n <= bundles::MOST_EVENTS)) {

@@ -6,10 +6,13 @@ use Rattle.drawn_examples.proofs.full_store.Statement.{statement}
 use Rattle.drawn_examples.proofs.full_store.Tie as tie
 
 abbrev Inv-loop : tie.InvT-loop
-Inv-loop store₀ count₀ port₀ t11 t12 t13 store count port = (port ≤ 255) × (length store ≡ 49152)
+Inv-loop store₀ count₀ port₀ t12 t13 t14 store count port = (port ≤ 255) × (length store ≡ 49152)
 
 abbrev μ-loop : tie.MeasureT-loop
-μ-loop store₀ count₀ port₀ t11 t12 t13 store count port = 255 - port
+μ-loop store₀ count₀ port₀ t12 t13 t14 store count port = 255 - port
+
+document-table-requires : tie.Need-document-table-requires Inv-loop μ-loop
+document-table-requires c κs = search needs
 
 slice-aggregate-start : tie.Need-slice-aggregate-start Inv-loop μ-loop
 slice-aggregate-start c = search needs
@@ -17,23 +20,20 @@ slice-aggregate-start c = search needs
 slice-aggregate-start-2 : tie.Need-slice-aggregate-start-2 Inv-loop μ-loop
 slice-aggregate-start-2 c = search needs
 
+slice-aggregate-start-3 : tie.Need-slice-aggregate-start-3 Inv-loop μ-loop
+slice-aggregate-start-3 c = search needs
+
 start-requires : tie.Need-start-requires Inv-loop μ-loop
 start-requires c κs = search needs
 
 loop-holds : tie.Need-loop-holds Inv-loop μ-loop
 loop-holds c = search needs
 
-slice-aggregate-take : tie.Need-slice-aggregate-take Inv-loop μ-loop
-slice-aggregate-take c = search needs
+slice-aggregate-offer : tie.Need-slice-aggregate-offer Inv-loop μ-loop
+slice-aggregate-offer c = search needs
 
-unplug-requires : tie.Need-unplug-requires Inv-loop μ-loop
-unplug-requires c κs = search needs
-
-slice-aggregate-take-2 : tie.Need-slice-aggregate-take-2 Inv-loop μ-loop
-slice-aggregate-take-2 c = search needs
-
-take-requires : tie.Need-take-requires Inv-loop μ-loop
-take-requires c κs = search needs
+offer-requires : tie.Need-offer-requires Inv-loop μ-loop
+offer-requires c κs = search needs
 
 add-port : tie.Need-add-port Inv-loop μ-loop
 add-port c = search needs
@@ -59,17 +59,11 @@ slice-aggregate-write-all-2 c = search needs
 write-all-requires-2 : tie.Need-write-all-requires-2 Inv-loop μ-loop
 write-all-requires-2 c κs = search needs
 
-slice-aggregate-take-3 : tie.Need-slice-aggregate-take-3 Inv-loop μ-loop
-slice-aggregate-take-3 c = search needs
+slice-aggregate-offer-2 : tie.Need-slice-aggregate-offer-2 Inv-loop μ-loop
+slice-aggregate-offer-2 c = search needs
 
-unplug-requires-2 : tie.Need-unplug-requires-2 Inv-loop μ-loop
-unplug-requires-2 c κs = search needs
-
-slice-aggregate-take-4 : tie.Need-slice-aggregate-take-4 Inv-loop μ-loop
-slice-aggregate-take-4 c = search needs
-
-take-requires-2 : tie.Need-take-requires-2 Inv-loop μ-loop
-take-requires-2 c κs = search needs
+offer-requires-2 : tie.Need-offer-requires-2 Inv-loop μ-loop
+offer-requires-2 c κs = search needs
 
 say-requires : tie.Need-say-requires Inv-loop μ-loop
 say-requires c κs = search needs
@@ -80,17 +74,11 @@ slice-aggregate-write-all-3 c = search needs
 write-all-requires-3 : tie.Need-write-all-requires-3 Inv-loop μ-loop
 write-all-requires-3 c κs = search needs
 
-slice-aggregate-take-5 : tie.Need-slice-aggregate-take-5 Inv-loop μ-loop
-slice-aggregate-take-5 c = search needs
+slice-aggregate-offer-3 : tie.Need-slice-aggregate-offer-3 Inv-loop μ-loop
+slice-aggregate-offer-3 c = search needs
 
-unplug-requires-3 : tie.Need-unplug-requires-3 Inv-loop μ-loop
-unplug-requires-3 c κs = search needs
-
-slice-aggregate-take-6 : tie.Need-slice-aggregate-take-6 Inv-loop μ-loop
-slice-aggregate-take-6 c = search needs
-
-take-requires-3 : tie.Need-take-requires-3 Inv-loop μ-loop
-take-requires-3 c κs = search needs
+offer-requires-3 : tie.Need-offer-requires-3 Inv-loop μ-loop
+offer-requires-3 c κs = search needs
 
 say-requires-2 : tie.Need-say-requires-2 Inv-loop μ-loop
 say-requires-2 c κs = search needs
@@ -101,7 +89,4 @@ returns c = search needs
 pub full-store-spec : {M : Type 1} → statement M
 full-store-spec =
     tie.close
-    (tie.spec Inv-loop μ-loop slice-aggregate-start slice-aggregate-start-2 start-requires loop-holds slice-aggregate-take unplug-requires
-    slice-aggregate-take-2 take-requires add-port loop-less loop-again slice-aggregate-write-all write-all-requires print-decimal-requires
-    slice-aggregate-write-all-2 write-all-requires-2 slice-aggregate-take-3 unplug-requires-2 slice-aggregate-take-4 take-requires-2 say-requires
-    slice-aggregate-write-all-3 write-all-requires-3 slice-aggregate-take-5 unplug-requires-3 slice-aggregate-take-6 take-requires-3 say-requires-2 returns)
+    (tie.spec Inv-loop μ-loop document-table-requires slice-aggregate-start slice-aggregate-start-2 slice-aggregate-start-3 start-requires loop-holds slice-aggregate-offer offer-requires add-port loop-less loop-again slice-aggregate-write-all write-all-requires print-decimal-requires slice-aggregate-write-all-2 write-all-requires-2 slice-aggregate-offer-2 offer-requires-2 say-requires slice-aggregate-write-all-3 write-all-requires-3 slice-aggregate-offer-3 offer-requires-3 say-requires-2 returns)

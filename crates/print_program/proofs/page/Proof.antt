@@ -1,8 +1,6 @@
-use mathlib.Core.Path.{sym, ap, _∙_}
+use mathlib.Core.Path.{ap₂, _∙_}
 use borrow.Author.Tests.{le-leb, lt-leb}
 use Rattle.lists.specs.Bytes.{Bytes}
-use Rattle.cords.specs.Cords.{cordLimit}
-use Rattle.bundles.specs.FirstEvent.{firstOf, firstPart}
 use Rattle.print_program.specs.Page.{startedPage, pageOf}
 use Rattle.print_program.proofs.FirstEvent.{first-refused, first-given}
 use Rattle.model.specs.Output.{overwritten-front}
@@ -37,8 +35,14 @@ returns-2 c =
     let file = c .before .before .before .before .before .before .before .before .before .before .before .args .file .now in
     let line = c .before .before .refusal-line2 .ensures in
     let b = c .before .before .before .before in
-    let first = first-refused (firstOf file) _ (b .before .first-event .ensures .1 .1) (b .if2 .taken) in
+    let first = first-refused _ file _ (b .before .first-event .ensures) (b .if2 .taken) in
     rw (le-leb _ _ (c .before .before .before .before .before .before .before .if1 .left), first) (overwritten-front _ _ _ _ (line .0) (line .1))
+
+document-table-requires : tie.Need-document-table-requires
+document-table-requires c κs = search needs
+
+slice-aggregate-write-started : tie.Need-slice-aggregate-write-started
+slice-aggregate-write-started c = search needs
 
 write-started-requires : tie.Need-write-started-requires
 write-started-requires c κs = search needs
@@ -52,15 +56,16 @@ same-length-4 c = search needs
 returns-3 : tie.Need-returns-3
 unfolding pageOf
 returns-3 c =
-    let a = c .before .before .before .before .before .before .before .before .before .before .before .before .before .before .args in
-    let call = c .before .before .before .before .before .before .before .before .first-event .ensures in
-    let first = first-given (a .file .now) (sym (call .1 .1) ∙ c .before .before .before .before .before .before .before .if2 .left) in
-    let lent = call .0 ∙ ap (firstPart (a .file .now)) first in
-    rw (le-leb _ _ (c .before .before .before .before .before .before .before .before .before .before .if1 .left), first)
-    (c .before .before .before .before .write-started .ensures ∙ ap (λ (x : Bytes). startedPage cordLimit (a .file .now) x (a .store .now) (a .out .now)) lent)
+    let made = c .before .before .before .before .before .before .before .before in
+    let tested = made .before in
+    let a = tested .before .before .before .before .before .before .before .args in
+    let first = first-given _ (a .file .now) _ (tested .before .first-event .ensures) (tested .if2 .left) in
+    rw (le-leb _ _ (tested .before .before .before .if1 .left), first .1)
+    (c .before .before .before .before .write-started .ensures
+    ∙ ap₂ (λ (t x : Bytes). startedPage t (a .file .now) x (a .store .now) (a .out .now)) (made .document-table .ensures .0) (first .2))
 
 pub page-spec : {M : Type 1} → statement M
 page-spec =
     tie.close
-    (tie.spec refusal-line-requires same-length returns first-event-requires refusal-line-requires-2 same-length-2 returns-2 write-started-requires
+    (tie.spec refusal-line-requires same-length returns first-event-requires refusal-line-requires-2 same-length-2 returns-2 document-table-requires slice-aggregate-write-started write-started-requires
     same-length-3 same-length-4 returns-3)

@@ -1,7 +1,5 @@
-use mathlib.Core.Path.{sym, ap, _∙_}
-use lib.ListN.{take}
+use mathlib.Core.Path.{refl, ap, _∙_}
 use Rattle.text_format.specs.Text.{refusalLine}
-use Rattle.reports.specs.Reports.{answerOfCount}
 use Rattle.print_program.specs.Page.{heldPage}
 use Rattle.model.specs.Output.{overwritten-front}
 use borrow.Author.Needs.{needs}
@@ -31,7 +29,7 @@ unfolding heldPage
 returns c =
     let text = c .before .before .before .before .before .text .ensures in
     let n = c .before .n .given in
-    rw (sym (text .0) ∙ ap answerOfCount (n .1)) (ap (take (n .0 .0)) (text .1))
+    rw (← text, n .1) refl
 
 same-length-2 : tie.Need-same-length-2
 same-length-2 c = search needs
@@ -41,7 +39,7 @@ unfolding heldPage
 returns-2 c =
     let text = c .before .before .before .before .before .before .before .before .before .before .text .ensures in
     let line = c .before .before .refusal-line .ensures in
-    rw (sym (text .0) ∙ ap answerOfCount (c .before .before .before .before .before .before .refusal .given .1))
+    rw (← text, c .before .before .before .before .before .before .refusal .given .1)
     (overwritten-front _ _ _ _ (line .0) (line .1) ∙ ap refusalLine (c .before .before .before .before .number .ensures))
 
 pub write-held-spec : {M : Type 1} → statement M

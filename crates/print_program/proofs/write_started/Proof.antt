@@ -1,10 +1,6 @@
-use Prim.Native.Nat.{ℕ}
-use mathlib.Core.Path.{sym, ap, ap₂, _∙_}
-use Rattle.lists.specs.Bytes.{Bytes}
-use Rattle.cords.specs.Cords.{cordLimit}
-use Rattle.takes.specs.Takes.{answerOfTake}
+use mathlib.Core.Path.{ap, _∙_}
 use Rattle.text_format.specs.Text.{refusalLine}
-use Rattle.print_program.specs.Page.{takenPage, startedPage}
+use Rattle.print_program.specs.Page.{startedPage}
 use Rattle.model.specs.Output.{overwritten-front}
 use borrow.Author.Needs.{needs}
 use Rattle.print_program.proofs.write_started.Statement.{statement}
@@ -43,11 +39,9 @@ same-length-2 c = search needs
 returns : tie.Need-returns
 unfolding startedPage
 returns c =
-    let a = c .before .before .before .before .before .before .before .before .before .before .before .before .before .before .before .before .before .args in
     let started = c .before .before .before .before .before .before .before .before .before .before .before .start .ensures in
-    rw (sym (started .0 .0) ∙ ap answerOfTake (c .before .before .before .before .before .before .before .enum-told .given .1))
-    (c .before .before .before .before .write-taken .ensures
-    ∙ ap₂ (λ (s : Bytes) (n : ℕ). takenPage cordLimit (a .file .now) s n (a .out .now)) (started .1) (started .0 .1))
+    rw (← started, c .before .before .before .before .before .before .before .enum-told .given .1)
+    (c .before .before .before .before .write-taken .ensures)
 
 same-length-3 : tie.Need-same-length-3
 same-length-3 c = search needs
@@ -58,11 +52,9 @@ same-length-4 c = search needs
 returns-2 : tie.Need-returns-2
 unfolding startedPage
 returns-2 c =
-    let a = c .before .before .before .before .before .before .before .before .before .before .before .before .before .before .before .before .before .args in
     let started = c .before .before .before .before .before .before .before .before .before .before .before .start .ensures in
-    rw (sym (started .0 .0) ∙ ap answerOfTake (c .before .before .before .before .before .before .before .enum-told2 .given .1))
-    (c .before .before .before .before .write-taken2 .ensures
-    ∙ ap₂ (λ (s : Bytes) (n : ℕ). takenPage cordLimit (a .file .now) s n (a .out .now)) (started .1) (started .0 .1))
+    rw (← started, c .before .before .before .before .before .before .before .enum-told2 .given .1)
+    (c .before .before .before .before .write-taken2 .ensures)
 
 same-length-5 : tie.Need-same-length-5
 same-length-5 c = search needs
@@ -75,7 +67,7 @@ unfolding startedPage
 returns-3 c =
     let started = c .before .before .before .before .before .before .before .before .before .before .start .ensures in
     let line = c .before .before .refusal-line .ensures in
-    rw (sym (started .0 .0) ∙ ap answerOfTake (c .before .before .before .before .before .before .answer .given .1))
+    rw (← started, c .before .before .before .before .before .before .answer .given .1)
     (overwritten-front _ _ _ _ (line .0) (line .1) ∙ ap refusalLine (c .before .before .before .before .number .ensures))
 
 pub write-started-spec : {M : Type 1} → statement M

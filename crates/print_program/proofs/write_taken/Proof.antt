@@ -1,8 +1,4 @@
-use Prim.Native.Nat.{ℕ}
-use mathlib.Core.Path.{ap₂, _∙_}
-use Rattle.lists.specs.Bytes.{Bytes}
-use Rattle.cords.specs.Cords.{cordLimit}
-use Rattle.print_program.specs.Page.{heldPage, takenPage}
+use Rattle.print_program.specs.Page.{takenPage}
 use borrow.Author.Needs.{needs}
 use Rattle.print_program.proofs.write_taken.Statement.{statement}
 use Rattle.print_program.proofs.write_taken.Tie as tie
@@ -23,8 +19,7 @@ returns : tie.Need-returns
 unfolding takenPage
 returns c =
     let taken = c .before .before .before .before .before .before .before .take-bundle .ensures in
-    let a = c .before .before .before .before .before .before .before .before .before .before .before .before .args in
-    c .before .before .write-held .ensures ∙ ap₂ (λ (s : Bytes) (n : ℕ). heldPage cordLimit s n (a .out .now)) (taken .1) (taken .0 .1)
+    rw (← taken) (c .before .before .write-held .ensures)
 
 pub write-taken-spec : {M : Type 1} → statement M
 write-taken-spec =

@@ -28,7 +28,7 @@ slice-relend-prefix-report-to c = search needs
 
 slice-aggregate-report-to : tie.Need-slice-aggregate-report-to
 slice-aggregate-report-to c =
-    sym (length-take-le (c .before .before .number32 .result) (c .before .before .before .before .before .before .before .args .out .now) (omega arith))
+    sym (length-take-le (c .before .before .number32 .result) (c .before .before .before .before .before .before .before .before .args .out .now) (omega arith))
 
 report-to-requires : tie.Need-report-to-requires
 report-to-requires c κs = search needs

@@ -1,5 +1,3 @@
-use mathlib.Core.Path.{_∙_, ap}
-use Rattle.tally.specs.Tallies.{tallied}
 use borrow.Author.Needs.{needs}
 use Rattle.tally.proofs.bundle_with.Statement.{statement}
 use Rattle.tally.proofs.bundle_with.Tie as tie
@@ -14,9 +12,7 @@ same-length : tie.Need-same-length
 same-length c = search needs
 
 returns : tie.Need-returns
-returns c =
-    let left = c .before .before .before .take-bundle .ensures in
-    (left .0, (left .1, c .tally-answer .ensures ∙ ap (tallied _) (left .0 .0)))
+returns c = rw (← c .before .before .before .take-bundle .ensures) cc
 
 pub bundle-with-spec : {M : Type 1} → statement M
 bundle-with-spec =

@@ -21,15 +21,13 @@ use denote.Struct.Laws as LL
 use denote.Triple.Spec.{Meets, tripleOf}
 use denote.Triple.Statement.{Contract, Triple}
 use denote.Triple.Table.{entered, cited}
-use denote.Triple.Walked.{walkOf, ends-at}
-use Rattle.cords.specs.Cords.{cordLimit}
-use Rattle.takes.specs.declared.Tally.{Tally}
-use Rattle.takes.specs.Takes.{answerOfBundle, Left, bundleOf}
+use denote.Triple.Walked.{says, walkOf, ends-at}
+use Rattle.takes.specs.Takes.{bundleLeft}
 use Rattle.takes.proofs.BundleTaken as K
 use Rattle.takes.proofs.BundleTaken.Laws as K′
-use Rattle.tally.specs.Tallies.{tallied}
+use Rattle.tally.specs.Tallies.{bundleTallied}
 use Rattle.tally.specs.declared.CountedBundle.{CountedBundle}
-use Rattle.tally.proofs.Walks.{stayed, Arg, count, offered, before, at, by-value, at-value, two, two-shares, says3, Had, gives-back}
+use Rattle.tally.proofs.Walks.{stayed, Arg, count, table, offered, before, at, by-value, at-value, three, three-shares, Had, gives-back}
 use Rattle.tally.proofs.WrapperWalk.{Pair, walk, meets-by}
 use Rattle.tally.proofs.CountedBundle as N
 use Rattle.tally.proofs.CountedBundle.Laws as N′
@@ -47,18 +45,10 @@ abbrev Callee : {M : Type 1} (𝓤 : URA M) (H : Heap 𝓤) (A : Atoms 𝓤) →
 Callee 𝓤 H A mem run = tripleOf 𝓤 H A with.signature (with.spec 𝓤 H A mem run)
 
 -- what it says of its result and of the store's last list
-module _ (a : Arg) where
-  abbrev left : Left Tally
-  left = bundleOf cordLimit (a .0 .now) (count a) (offered a .now)
-
-  abbrev SaidTaken : CountedBundle → Type 0
-  SaidTaken r = (answerOfBundle (r .taken .answer) ≡ left .answer) × (r .taken .count ≡ left .count)
-
-  abbrev SaidStore : List ℕ → Type 0
-  SaidStore zs = zs ≡ left .store
-
-  abbrev SaidTally : CountedBundle → Type 0
-  SaidTally r = r .tally ≡ tallied (before a) (left .answer)
+abbrev Said : Arg → CountedBundle → List ℕ → Type 0
+Said a r zs =
+    bundleTallied (table a .now) (a .0 .now) (count a) (offered a .now) (before a)
+    ≡ record { left = bundleLeft (r .taken) zs; tally = r .tally }
 
 abbrev value-of : CountedBundle → Val
 value-of r = LL.val K.the-type K′.the-laws (r .taken)
@@ -77,19 +67,19 @@ module _ {M : Type 1} (𝓤 : URA M) (H : Heap 𝓤) (A : Atoms 𝓤) (W : Given
         taken-typed = λ r w is. LL.lawful K.the-type K′.the-laws 𝓤 H A W .typed (r .taken) _ (LL.owed N.the-type N′.the-laws r _ is .1 .0) .0;
       }
 
-  module _ (κs : Lfts 3) (qs : Shares 3) (a : Arg) (fits : count a < 2 ^ 64) where
+  module _ (κs : Lfts 4) (qs : Shares 4) (a : Arg) (fits : count a < 2 ^ 64) where
     abbrev Post : Val → SProp 𝓤
     Post = walkOf 𝓤 H A this.ended (stayed K.the-row) (this.clauses 𝓤 H A mem run) .post ((κs, qs, tt, a, at a), tt)
 
-    exits : (r : CountedBundle) (zs : List ℕ) → SaidTaken a r → SaidStore a zs → SaidTally a r → length zs ≡ length (a .0 .now)
+    exits : (r : CountedBundle) (zs : List ℕ) → Said a r zs → length zs ≡ length (a .0 .now)
         → Is K.the-row (r .taken) (value-of r ∷ [])
         → ent 𝓤 (⋆ 𝓤 H A (Had 𝓤 H A W κs qs a fits (r .tally) zs)) (Post (value-of r))
-    exits r zs taken store tally l k =
+    exits r zs said l k =
         qed W (Had 𝓤 H A W κs qs a fits (r .tally) zs) ∵
         suffices ! _
         (ends-at 𝓤 H A this.ended (stayed K.the-row) (this.clauses 𝓤 H A mem run) W ((κs, qs, tt, a, at a), tt) (value-of r)
-        (r .taken) (zs, (tt, (tt, (r .tally, tt)))) (l, (tt, (tt, (tt, tt))))) $
-        says3 ! taken store tally $
+        (r .taken) (zs, (tt, (tt, (tt, (r .tally, tt))))) (l, (tt, (tt, (tt, (tt, tt)))))) $
+        says ! said $
         by !
         (gives-back 𝓤 H A W κs qs a fits K.the-row (r .taken) (value-of r) (r .tally) zs
         (LL.makes K.the-type K′.the-plain 𝓤 H A (r .taken) _ k))
@@ -98,11 +88,11 @@ module _ {M : Type 1} (𝓤 : URA M) (H : Heap 𝓤) (A : Atoms 𝓤) (W : Given
       → Meets 𝓤 H A this.signature (WpFn 𝓤 H (𝓣 .C) (𝓣 .Λ) code.function) (this.spec 𝓤 H A mem run)
   meets 𝓣 known =
       meets-by 𝓤 H A W K.the-row (this.clauses 𝓤 H A mem run) code.function 𝓣
-      (λ κs qs a g fits room p.
-      let to : Callee 𝓤 H A mem run .Ghost = ((two κs, two-shares qs, tt, by-value a, at-value a), tt) in
-      walk 𝓤 H A W κs qs a fits N.the-row K.the-row (N.the-type .name) K′.mir parts (SaidTaken a) (SaidTally a) (SaidStore a)
+      (λ κs qs a g fits room are.
+      let to : Callee 𝓤 H A mem run .Ghost = ((three κs, three-shares qs, tt, by-value a, at-value a), tt) in
+      walk 𝓤 H A W κs qs a fits N.the-row K.the-row (N.the-type .name) K′.mir parts (Said a)
       (𝓣 .C) (𝓣 .Λ) (fmOf 𝓤 H (W .laws) 𝓣) #callee (Callee 𝓤 H A mem run .post to) (Post κs qs a fits) (known to) (λ w. id⊢ 𝓤 _)
-      (exits κs qs a fits) room p)
+      (exits κs qs a fits) room are)
 
 pub take-bundle-counted-spec : {M : Type 1} → stated.statement M
 unfolding code.routine tablesOf

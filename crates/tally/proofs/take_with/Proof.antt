@@ -1,5 +1,3 @@
-use mathlib.Core.Path.{_∙_, ap}
-use Rattle.takes.specs.Takes.{counted}
 use borrow.Author.Needs.{needs}
 use Rattle.tally.proofs.take_with.Statement.{statement}
 use Rattle.tally.proofs.take_with.Tie as tie
@@ -14,9 +12,7 @@ same-length : tie.Need-same-length
 same-length c = search needs
 
 returns : tie.Need-returns
-returns c =
-    let left = c .before .before .before .take .ensures in
-    (left .0, (left .1, c .count-answer .ensures ∙ ap (counted _) (left .0 .0)))
+returns c = rw (← c .before .before .before .take .ensures) cc
 
 pub take-with-spec : {M : Type 1} → statement M
 take-with-spec = tie.close (tie.spec take-requires count-answer-requires same-length returns)

@@ -38,8 +38,9 @@ returns : tie.Need-returns
 returns c =
     let w = c .before .before .before .before .before .before .before .before .before .before in
     let k = w .before .before .before .before .before in
-    text-told (k .linked .ensures) (k .before .before .before .before .before .args .out .now)
-    (w .before .before .before .enum-told .given .1) (w .write-rows .ensures) refl
+    let a = k .before .before .before .before .before .before .args in
+    text-told (k .linked .ensures) (a .out .now) (w .before .before .before .enum-told .given .1)
+    (λ i. k .before .before .before .before .shared-slice-known2 .given i .fits) (w .write-rows .ensures) refl
     (c .before .size .given .1) (c .before .before .before .before .before .write-fronts .ensures)
 
 same-length-2 : tie.Need-same-length-2
@@ -49,14 +50,15 @@ returns-2 : tie.Need-returns-2
 returns-2 c =
     let w = c .before .before .before .before .before .before .before .before .before in
     let k = w .before .before .before .before .before in
-    text-told (k .linked .ensures) (k .before .before .before .before .before .args .out .now)
-    (w .before .before .before .enum-told .given .1) (w .write-rows .ensures) refl
+    let a = k .before .before .before .before .before .before .args in
+    text-told (k .linked .ensures) (a .out .now) (w .before .before .before .enum-told .given .1)
+    (λ i. k .before .before .before .before .shared-slice-known2 .given i .fits) (w .write-rows .ensures) refl
     (c .enum-told2 .given .1) (c .before .before .before .before .write-fronts .ensures)
 
 returns-3 : tie.Need-returns-3
 returns-3 c =
     let k = c .before .before .before in
-    text-refused (k .linked .ensures) (k .before .before .before .before .before .args .out .now) _ (c .before .refusal .given .1)
+    text-refused (k .linked .ensures) (k .before .before .before .before .before .before .args .out .now) _ (c .before .refusal .given .1)
 
 pub text-spec : {M : Type 1} → statement M
 text-spec =

@@ -19,12 +19,12 @@ number-requires c κs = search needs
 returns : tie.Need-returns
 returns c =
     let answer = sym (c .before .before .before .find-first .ensures) ∙ ap answerOfFirst (c .before .at .given .1) in
-    rw answer (refl, refl)
+    rw answer refl
 
 returns-2 : tie.Need-returns-2
 returns-2 c =
     let answer = sym (c .before .before .before .before .find-first .ensures) ∙ ap answerOfFirst (c .before .before .refusal .given .1) in
-    rw answer (c .number .ensures, refl)
+    rw (answer, c .number .ensures) refl
 
 pub pelchunda-first-event-spec : {M : Type 1} → statement M
 pelchunda-first-event-spec =

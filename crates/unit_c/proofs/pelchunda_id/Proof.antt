@@ -9,13 +9,13 @@ use Rattle.unit_c.proofs.pelchunda_id.Tie as tie
 
 returns : tie.Need-returns
 unfolding idOf
-returns c = rw (ne-eqb _ _ (c .if1 .taken)) (refl, refl)
+returns c = rw (ne-eqb _ _ (c .if1 .taken)) refl
 
 returns-2 : tie.Need-returns-2
 unfolding idOf
 returns-2 c =
     let id = length (c .before .before .before .before .args .id .now) in
-    rw (eq-eqb _ _ (c .before .if1 .left), lt-leb 32 id (c .if2 .taken)) (refl, refl)
+    rw (eq-eqb _ _ (c .before .if1 .left), lt-leb 32 id (c .if2 .taken)) refl
 
 event-id-requires : tie.Need-event-id-requires
 event-id-requires c κs = search needs

@@ -18,7 +18,7 @@ returns : tie.Need-returns
 unfolding idsOf
 returns c =
     let events = length (c .before .before .before .args .events .now) in
-    rw (not-true (eqb events (events / 192 * 192) && leb (events / 192) 256) (c .if1 .taken)) (refl, refl)
+    rw (not-true (eqb events (events / 192 * 192) && leb (events / 192) 256) (c .if1 .taken)) refl
 
 mul-if2 : tie.Need-mul-if2
 mul-if2 c = search needs
@@ -29,7 +29,7 @@ returns-2 c =
     let a = c .before .before .before .before .args in
     let events = length (a .events .now) in
     let whole = not-false (eqb events (events / 192 * 192) && leb (events / 192) 256) (c .before .if1 .left) in
-    rw (whole, lt-leb (events / 192 * 32) (length (a .ids .now)) (c .if2 .taken)) (refl, refl)
+    rw (whole, lt-leb (events / 192 * 32) (length (a .ids .now)) (c .if2 .taken)) refl
 
 find-ids-requires : tie.Need-find-ids-requires
 find-ids-requires c κs =

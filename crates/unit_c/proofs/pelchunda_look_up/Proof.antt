@@ -19,12 +19,12 @@ number-requires c κs = search needs
 returns : tie.Need-returns
 returns c =
     let answer = sym (c .before .before .before .find .ensures) ∙ ap answerOfFind (c .before .found .given .1) in
-    rw answer (refl, refl)
+    rw answer refl
 
 returns-2 : tie.Need-returns-2
 returns-2 c =
     let answer = sym (c .before .before .before .before .find .ensures) ∙ ap answerOfFind (c .before .before .refusal .given .1) in
-    rw answer (c .number .ensures, refl)
+    rw (answer, c .number .ensures) refl
 
 pub pelchunda-look-up-spec : {M : Type 1} → statement M
 pelchunda-look-up-spec =

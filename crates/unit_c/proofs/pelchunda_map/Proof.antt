@@ -22,8 +22,7 @@ same-length c = search needs
 returns : tie.Need-returns
 returns c =
     let call = c .before .before .before .before .before .map .ensures in
-    let answer = sym (call .0) ∙ ap answerOfMap (c .before .figures .given .1) in
-    rw answer (refl, (call .1, (refl, (refl, refl))))
+    rw (← call, c .before .figures .given .1) refl
 
 same-length-2 : tie.Need-same-length-2
 same-length-2 c = search needs
@@ -31,8 +30,7 @@ same-length-2 c = search needs
 returns-2 : tie.Need-returns-2
 returns-2 c =
     let call = c .before .before .before .before .before .before .map .ensures in
-    let answer = sym (call .0) ∙ ap answerOfMap (c .before .before .refusal .given .1) in
-    rw answer (c .number .ensures, (call .1, (refl, (refl, refl))))
+    rw (← call, c .before .before .refusal .given .1, c .number .ensures) refl
 
 pub pelchunda-map-spec : {M : Type 1} → statement M
 pelchunda-map-spec =

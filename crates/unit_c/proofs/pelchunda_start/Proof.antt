@@ -1,6 +1,4 @@
-use mathlib.Core.Path.{sym, ap, _∙_}
-use Rattle.takes.specs.Takes.{answerOfTake}
-use Rattle.event.specs.Answers.{shownNumber}
+use mathlib.Core.Path.{refl}
 use borrow.Author.Needs.{needs}
 use Rattle.unit_c.proofs.pelchunda_start.Statement.{statement}
 use Rattle.unit_c.proofs.pelchunda_start.Tie as tie
@@ -26,8 +24,7 @@ same-length c = search needs
 returns : tie.Need-returns
 returns c =
     let call = c .before .before .before .before .start .ensures in
-    let answer = sym (call .0 .0) ∙ ap answerOfTake (c .enum-told .given .1) in
-    (sym (ap shownNumber answer), (call .1, call .0 .1))
+    rw (← call, c .enum-told .given .1) refl
 
 same-length-2 : tie.Need-same-length-2
 same-length-2 c = search needs
@@ -35,8 +32,7 @@ same-length-2 c = search needs
 returns-2 : tie.Need-returns-2
 returns-2 c =
     let call = c .before .before .before .before .start .ensures in
-    let answer = sym (call .0 .0) ∙ ap answerOfTake (c .enum-told2 .given .1) in
-    (sym (ap shownNumber answer), (call .1, call .0 .1))
+    rw (← call, c .enum-told2 .given .1) refl
 
 same-length-3 : tie.Need-same-length-3
 same-length-3 c = search needs
@@ -44,8 +40,7 @@ same-length-3 c = search needs
 returns-3 : tie.Need-returns-3
 returns-3 c =
     let call = c .before .before .before .before .before .before .start .ensures in
-    let answer = sym (call .0 .0) ∙ ap answerOfTake (c .before .before .answer .given .1) in
-    (c .number .ensures ∙ sym (ap shownNumber answer), (call .1, call .0 .1))
+    rw (← call, c .before .before .answer .given .1, c .number .ensures) refl
 
 pub pelchunda-start-spec : {M : Type 1} → statement M
 pelchunda-start-spec =

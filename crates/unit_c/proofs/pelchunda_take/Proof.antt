@@ -1,3 +1,4 @@
+use mathlib.Core.Path.{refl}
 use borrow.Author.Needs.{needs}
 use Rattle.unit_c.proofs.pelchunda_take.Statement.{statement}
 use Rattle.unit_c.proofs.pelchunda_take.Tie as tie
@@ -15,7 +16,7 @@ returns : tie.Need-returns
 returns c =
     let call = c .before .before .before .before .take .ensures in
     let shown = c .show-placed .ensures in
-    rw (← call .0 .0) (shown .0, (call .1, (call .0 .1, shown .1)))
+    rw (← call, shown .0, shown .1) refl
 
 pub pelchunda-take-spec : {M : Type 1} → statement M
 pelchunda-take-spec = tie.close (tie.spec take-requires show-placed-requires same-length returns)

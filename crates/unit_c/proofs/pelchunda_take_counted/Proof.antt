@@ -1,3 +1,5 @@
+use mathlib.Core.Path.{refl, ap, _∙_}
+use Rattle.unit_c.specs.Numbers.{showTake, showTallied}
 use borrow.Author.Needs.{needs}
 use Rattle.unit_c.proofs.pelchunda_take_counted.Statement.{statement}
 use Rattle.unit_c.proofs.pelchunda_take_counted.Tie as tie
@@ -19,9 +21,13 @@ same-length c = search needs
 
 returns : tie.Need-returns
 returns c =
-    let call = c .before .before .before .before .before .before .before .take-with .ensures in
+    let call = c .before .before .before .before .before .before .before in
+    let made = call .before .before .before in
     let shown = c .show-placed .ensures in
-    rw (← call .0 .0) (shown .0, (call .1 .0, (call .0 .1, (shown .1, cc))))
+    let figures = c .before .before .before .to-figures .ensures in
+    let before = made .before .before .before .before .before .args .repeat .now in
+    rw (← made .to-tally .ensures)
+    (ap (showTallied (showTake before)) (call .take-with .ensures) ∙ rw (shown .0, shown .1, figures) refl)
 
 pub pelchunda-take-counted-spec : {M : Type 1} → statement M
 pelchunda-take-counted-spec =

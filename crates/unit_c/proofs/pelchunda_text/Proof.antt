@@ -1,3 +1,4 @@
+use mathlib.Core.Path.{refl}
 use borrow.Author.Needs.{needs}
 use Rattle.unit_c.proofs.pelchunda_text.Statement.{statement}
 use Rattle.unit_c.proofs.pelchunda_text.Tie as tie
@@ -15,7 +16,7 @@ returns : tie.Need-returns
 returns c =
     let call = c .before .before .before .before .text .ensures in
     let shown = c .show-count .ensures in
-    rw (← call .0) (shown .0, (call .1, shown .1))
+    rw (← call, shown .0, shown .1) refl
 
 pub pelchunda-text-spec : {M : Type 1} → statement M
 pelchunda-text-spec = tie.close (tie.spec text-requires show-count-requires same-length returns)

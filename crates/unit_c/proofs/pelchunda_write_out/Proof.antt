@@ -1,3 +1,4 @@
+use mathlib.Core.Path.{refl}
 use borrow.Author.Needs.{needs}
 use Rattle.unit_c.proofs.pelchunda_write_out.Statement.{statement}
 use Rattle.unit_c.proofs.pelchunda_write_out.Tie as tie
@@ -15,7 +16,7 @@ returns : tie.Need-returns
 returns c =
     let call = c .before .before .before .before .write-out .ensures in
     let shown = c .show-count .ensures in
-    rw (← call .0) (shown .0, (call .1, shown .1))
+    rw (← call, shown .0, shown .1) refl
 
 pub pelchunda-write-out-spec : {M : Type 1} → statement M
 pelchunda-write-out-spec =
