@@ -15,9 +15,10 @@
  *     L look-up        V verdict           (payload: what is offered or asked)
  *     O order          M map               W write-out (payload: the output's length)
  *     R text of a bundle that a fresh unit takes
- *     I id of an event J ids of events     K version
+ *     k document 01's cord table           (payload: the output's length)
+ *     I id of an event J ids of events     v version
  *     C sets the count, P bytes of the store, N its length, Y the tally,
- *     Z everything back: no call, and no answer
+ *     K the cord table, Z everything back: no call, and no answer
  *
  * Stores and outputs are compared by their SHA-256, which this file computes by
  * itself.
@@ -53,6 +54,8 @@ struct recorded {
  * the store, so that a write past its end is seen. */
 static uint8_t store[STORE_AREA], out[OUT_AREA];
 static size_t store_len, count;
+static const uint8_t *table;
+static size_t table_len;
 static uint32_t tally[3];
 
 /* ---- SHA-256, by FIPS 180-4 ---- */
@@ -153,6 +156,8 @@ static void reset(void)
     fill(store, STORE_AREA, STORE_FILL);
     store_len = PELCHUNDA_STORE_BYTES;
     count = 0;
+    table = NULL;
+    table_len = 0;
     tally[0] = tally[1] = tally[2] = 0;
 }
 
@@ -170,8 +175,9 @@ static void left(struct answer *a, const uint32_t *numbers, unsigned n)
 static void take(struct answer *a, const uint8_t *event, size_t len, int counted)
 {
     uint8_t repeat = UNSET;
-    a->number = counted ? pelchunda_take_counted(store, store_len, &count, event, len, &repeat, tally)
-                        : pelchunda_take(store, store_len, &count, event, len, &repeat);
+    a->number = counted
+                    ? pelchunda_take_counted(store, store_len, &count, table, table_len, event, len, &repeat, tally)
+                    : pelchunda_take(store, store_len, &count, table, table_len, event, len, &repeat);
     uint32_t numbers[4] = {repeat, tally[0], tally[1], tally[2]};
     left(a, numbers, counted ? 4 : 1);
 }
@@ -179,8 +185,9 @@ static void take(struct answer *a, const uint8_t *event, size_t len, int counted
 static void take_bundle(struct answer *a, const uint8_t *bundle, size_t len, int counted)
 {
     uint32_t figures[3] = {UNSET, UNSET, UNSET};
-    a->number = counted ? pelchunda_take_bundle_counted(store, store_len, &count, bundle, len, figures, tally)
-                        : pelchunda_take_bundle(store, store_len, &count, bundle, len, figures);
+    a->number = counted ? pelchunda_take_bundle_counted(store, store_len, &count, table, table_len, bundle, len,
+                                                        figures, tally)
+                        : pelchunda_take_bundle(store, store_len, &count, table, table_len, bundle, len, figures);
     uint32_t numbers[6] = {figures[0], figures[1], figures[2], tally[0], tally[1], tally[2]};
     left(a, numbers, counted ? 6 : 3);
 }
@@ -188,7 +195,7 @@ static void take_bundle(struct answer *a, const uint8_t *bundle, size_t len, int
 static void look_up(struct answer *a, const uint8_t *id, size_t len)
 {
     uint16_t place = UNSET;
-    a->number = pelchunda_look_up(store, store_len, count, id, len, &place);
+    a->number = pelchunda_look_up(store, store_len, count, table, table_len, id, len, &place);
     a->values[0] = place;
     if (a->number == PELCHUNDA_OK && place < PELCHUNDA_PLACES) {
         a->values[0] = PELCHUNDA_EVENT_BYTES;
@@ -199,21 +206,25 @@ static void look_up(struct answer *a, const uint8_t *id, size_t len)
 static void verdict(struct answer *a, const uint8_t *id, size_t len)
 {
     uint8_t shown = UNSET;
-    a->number = pelchunda_verdict(store, store_len, count, id, len, &shown);
+    a->number = pelchunda_verdict(store, store_len, count, table, table_len, id, len, &shown);
     a->values[0] = shown;
 }
 
-/* Order, map or write-out, with an output of n bytes. */
+/* Order, map, write-out or document 01's table, with an output of n bytes. */
 static void report(struct answer *a, char letter, size_t n)
 {
     size_t numbers[3] = {UNSET, UNSET, UNSET};
     fill(out, n, OUT_FILL);
     switch (letter) {
-    case 'O': a->number = pelchunda_order(store, store_len, count, out, n, &numbers[0]); break;
-    case 'M': a->number = pelchunda_map(store, store_len, count, out, n, &numbers[0], &numbers[1], &numbers[2]); break;
-    default: a->number = pelchunda_write_out(store, store_len, count, out, n, &numbers[0]);
+    case 'O': a->number = pelchunda_order(store, store_len, count, table, table_len, out, n, &numbers[0]); break;
+    case 'M':
+        a->number = pelchunda_map(store, store_len, count, table, table_len, out, n, &numbers[0], &numbers[1],
+                                  &numbers[2]);
+        break;
+    case 'W': a->number = pelchunda_write_out(store, store_len, count, table, table_len, out, n, &numbers[0]); break;
+    default: a->number = pelchunda_document_table(out, n);
     }
-    for (unsigned i = 0; i < (letter == 'M' ? 3u : 1u); i++) {
+    for (unsigned i = 0; i < (letter == 'M' ? 3u : letter == 'k' ? 0u : 1u); i++) {
         a->values[i] = (uint32_t)numbers[i];
     }
     sha256(out, n, a->digest);
@@ -226,13 +237,13 @@ static void text_of(struct answer *a, const uint8_t *bundle, size_t len)
     uint32_t figures[3] = {0, 0, 0};
     a->number = pelchunda_first_event(bundle, len, &offset);
     if (a->number == PELCHUNDA_OK) {
-        a->number = pelchunda_start(store, store_len, &count, bundle + offset, PELCHUNDA_EVENT_BYTES);
+        a->number = pelchunda_start(store, store_len, &count, table, table_len, bundle + offset, PELCHUNDA_EVENT_BYTES);
     }
     if (a->number == PELCHUNDA_OK) {
-        a->number = pelchunda_take_bundle(store, store_len, &count, bundle, len, figures);
+        a->number = pelchunda_take_bundle(store, store_len, &count, table, table_len, bundle, len, figures);
     }
     if (a->number == PELCHUNDA_OK) {
-        a->number = pelchunda_text(store, store_len, count, out, sizeof out, &bytes);
+        a->number = pelchunda_text(store, store_len, count, table, table_len, out, sizeof out, &bytes);
     }
     a->values[0] = (uint32_t)bytes;
     if (a->number == PELCHUNDA_OK && bytes <= sizeof out) {
@@ -264,6 +275,10 @@ static void set(char letter, const uint8_t *payload, size_t len)
     case 'C': count = word_at(payload); break;
     case 'N': store_len = word_at(payload); break;
     case 'P': poke(payload, len); break;
+    case 'K':
+        table = payload;
+        table_len = len;
+        break;
     case 'Y':
         for (unsigned i = 0; i < 3; i++) {
             tally[i] = word_at(payload + 4 * i);
@@ -281,7 +296,7 @@ static const struct {
 } names[] = {
     {'S', "start"},   {'T', "take counted"}, {'t', "take"}, {'B', "bundle counted"}, {'b', "bundle"},
     {'L', "look-up"}, {'V', "verdict"},      {'O', "order"}, {'M', "map"},           {'W', "write-out"},
-    {'R', "text"},    {'I', "id"},           {'J', "ids"},   {'K', "version"},
+    {'R', "text"},    {'k', "document's table"}, {'I', "id"}, {'J', "ids"},          {'v', "version"},
 };
 
 /* The name of a call, or a null pointer where the letter is none. */
@@ -301,7 +316,7 @@ static void make(const struct recorded *r, struct answer *a)
     const uint8_t *payload = r->len == 0 ? NULL : payloads + r->at;
     switch (r->letter) {
     case 'S':
-        a->number = pelchunda_start(store, store_len, &count, payload, r->len);
+        a->number = pelchunda_start(store, store_len, &count, table, table_len, payload, r->len);
         left(a, NULL, 0);
         break;
     case 'T': take(a, payload, r->len, 1); break;
@@ -312,11 +327,12 @@ static void make(const struct recorded *r, struct answer *a)
     case 'V': verdict(a, payload, r->len); break;
     case 'O':
     case 'M':
-    case 'W': report(a, r->letter, word_at(payload)); break;
+    case 'W':
+    case 'k': report(a, r->letter, word_at(payload)); break;
     case 'R': text_of(a, payload, r->len); break;
     case 'I': a->number = pelchunda_id(payload, r->len, a->digest, sizeof a->digest); break;
     case 'J': ids(a, payload, r->len); break;
-    case 'K': a->number = pelchunda_version() != PELCHUNDA_VERSION_NUMBER; break;
+    case 'v': a->number = pelchunda_version() != PELCHUNDA_VERSION_NUMBER; break;
     default: set(r->letter, payload, r->len);
     }
 }

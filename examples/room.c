@@ -1,6 +1,6 @@
 /*
- * Reads a bundle, starts a unit with its first event, takes the bundle, and
- * prints the map.
+ * Reads a bundle, starts a unit with its first event and document 01's cord
+ * table, takes the bundle, and prints the map.
  *
  *     gcc -std=c99 -O2 room.c $(pkg-config --cflags --libs pelchunda) -o room
  *     ./room room.bun
@@ -13,7 +13,7 @@
 
 static uint8_t file[FILE_BYTES + 1];
 static struct pelchunda_unit unit;
-static uint8_t map[PELCHUNDA_MAP_BYTES];
+static uint8_t table[PELCHUNDA_TABLE_BYTES], map[PELCHUNDA_MAP_BYTES];
 
 /* Says which call was refused, and why. */
 static int refused(const char *call, uint8_t number)
@@ -56,7 +56,11 @@ static int show(size_t len)
     if (number != PELCHUNDA_OK) {
         return refused("first event", number);
     }
-    number = pelchunda_unit_start(&unit, file + offset);
+    number = pelchunda_document_table(table, sizeof table);
+    if (number != PELCHUNDA_OK) {
+        return refused("cord table", number);
+    }
+    number = pelchunda_unit_start(&unit, table, file + offset);
     if (number != PELCHUNDA_OK) {
         return refused("start", number);
     }

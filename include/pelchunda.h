@@ -8,12 +8,18 @@
  * alone: the same calls on a struct pelchunda_unit, readers of rows, and words.
  *
  * A slice of bytes is two arguments: a pointer, and a length that has its name
- * and `_len`. All calls have one order of arguments: the store, its count, what
- * is offered or asked, the output, the numbers answered, the tally. Each call
- * returns 0, or the number of a refusal (below). What it answers besides goes to
- * the numbers behind the other pointers. A refused call leaves every slice and
- * these numbers as they were; only a start then gives the count 0, and a take
- * raises its tally's refused figure.
+ * and `_len`. All calls have one order of arguments: the store, its count, the
+ * cord table, what is offered or asked, the output, the numbers answered, the
+ * tally. Each call returns 0, or the number of a refusal (below). What it answers
+ * besides goes to the numbers behind the other pointers. A refused call leaves
+ * every slice and these numbers as they were; only a start then gives the count
+ * 0, and a take raises its tally's refused figure.
+ *
+ * The cord table is a hall's own: 256 lengths in metres, two bytes each,
+ * big-endian. Number 16 * a + b of them, from 0 on, is the longest cord between
+ * connectors of the kinds a and b. It must be the same as that of b and a, and 0
+ * where the kinds are of unlike families, a / 4 and b / 4; else the calls return
+ * 12. pelchunda_document_table writes document 01's.
  *
  * What the library guarantees, by proof, for every content and every length of
  * the slices and every count: the call returns, reads and writes nothing but
@@ -38,9 +44,10 @@
  *   and memset use at most 128 bytes below their return address. (Where a
  *   dynamic linker binds these at their first call, that call takes some KiB
  *   more: link with -z now or -static.)
- * - Between calls the store and the count are kept as the last call left them.
- *   If they are not, the calls are still safe, but what they answer is about
- *   the bytes that stand there now.
+ * - Between calls the store and the count are kept as the last call left them,
+ *   and every call for a store is lent one and the same table. If not, the calls
+ *   are still safe, but what they answer is about the bytes that they are lent
+ *   now: a store that is good by one table may get 2 by another.
  */
 #ifndef PELCHUNDA_H
 #define PELCHUNDA_H
@@ -76,8 +83,8 @@ extern "C" {
 
 /* The version of this header; pelchunda_version answers the library's. The
  * number is 10,000 * major + 100 * minor + patch. */
-#define PELCHUNDA_VERSION "1.1.0"
-#define PELCHUNDA_VERSION_NUMBER 10100
+#define PELCHUNDA_VERSION "2.0.0"
+#define PELCHUNDA_VERSION_NUMBER 20000
 
 /* The format number of an event, its bytes 14 and 15. Another gets 3. */
 #define PELCHUNDA_FORMAT_NUMBER 0
@@ -90,6 +97,7 @@ extern "C" {
 #define PELCHUNDA_ID_BYTES 32
 #define PELCHUNDA_PLACES 256
 #define PELCHUNDA_STORE_BYTES 49152     /* 256 places of 192 */
+#define PELCHUNDA_TABLE_BYTES 512       /* 256 lengths of 2 */
 #define PELCHUNDA_ORDER_ROW_BYTES 36
 #define PELCHUNDA_ORDER_BYTES 9216      /* enough for every order: 256 rows */
 #define PELCHUNDA_MAP_ROW_BYTES 8
@@ -98,8 +106,9 @@ extern "C" {
 #define PELCHUNDA_BUNDLE_BYTES 49164    /* enough for every write-out */
 #define PELCHUNDA_TEXT_BYTES 8192       /* enough for every text */
 
-/* The numbers that a call returns. Of several that apply, it is the smallest.
- * (pelchunda_first_event looks for an event only in a bundle that passes 8.) */
+/* The numbers that a call returns: the first that applies, in the call's order of
+ * tests. All test from the smallest number up, but 12 right after 1. (And
+ * pelchunda_first_event looks for an event only in a bundle that passes 8.) */
 enum pelchunda_number {
     PELCHUNDA_OK = 0,
     PELCHUNDA_WRONG_LENGTH = 1,   /* an event not 192 bytes, a store not 49,152, an asked id not 32 */
@@ -109,12 +118,14 @@ enum pelchunda_number {
     PELCHUNDA_OTHER_ROOM = 4,     /* room unlike the creator's */
     PELCHUNDA_WRONG_CREATE = 5,   /* start without kind 0; take of a kind 0 unlike the creator; the first event of
                                      a bundle that has none */
-    PELCHUNDA_CORD_TOO_LONG = 6,  /* a join longer than its entry */
+    PELCHUNDA_CORD_TOO_LONG = 6,  /* a join longer than its entry in the cord table */
     PELCHUNDA_STORE_FULL = 7,     /* 256 held and the id new */
     PELCHUNDA_BAD_BUNDLE = 8,     /* bundle under 12 bytes, or a trailer field wrong, or distance past the front */
     PELCHUNDA_NOT_HELD = 9,       /* verdict or look-up of an id not held */
-    PELCHUNDA_SHORT_OUTPUT = 10   /* output too short */
+    PELCHUNDA_SHORT_OUTPUT = 10,  /* output too short */
     /* 11 is struck: no call returns it, and it is not given out again */
+    PELCHUNDA_BAD_TABLE = 12      /* a cord table not 512 bytes, or with an entry unlike its mirror, or with one that
+                                     is not 0 between unlike families */
 };
 
 /* The verdicts of pelchunda_verdict and of the order's rows. */
@@ -144,29 +155,33 @@ uint32_t pelchunda_version(void);
  *
  * store    49,152 bytes; those past place 0 may be any, and stay
  * count    is 1 after the call, and 0 after a refusal
+ * table    512 bytes, the cord table; later calls are lent the same
  * event    192 bytes
- * returns  0, 1, 3 or 5; a refusal leaves the store as it was
- * empty    store or event: 1
- * stack    176 bytes
+ * returns  0, 1, 12, 3 or 5; a refusal leaves the store as it was
+ * empty    store or event: 1; table: 12, where 1 passes
+ * stack    192 bytes
  */
 PELCHUNDA_MUST_USE PELCHUNDA_NONNULL(3)
 uint8_t pelchunda_start(uint8_t *store, size_t store_len, size_t *count,
+                        const uint8_t *table, size_t table_len,
                         const uint8_t *event, size_t event_len);
 
 /*
  * Takes one event: puts a new one into the next place.
  *
  * count    the number of events held; one more where the event was stored
+ * table    512 bytes, as for pelchunda_start
  * event    192 bytes
  * repeat   0: the event was stored; 1: its id is held already, and the store
  *          and the count are as they were
- * returns  0 to 7; a refusal leaves the store, the count and repeat as they
- *          were
- * empty    store or event: 1
- * stack    13,848 bytes
+ * returns  0, 1, 12 or 2 to 7; a refusal leaves the store, the count and
+ *          repeat as they were
+ * empty    store or event: 1; table: 12, where 1 passes
+ * stack    13,960 bytes
  */
-PELCHUNDA_MUST_USE PELCHUNDA_NONNULL(3, 6)
+PELCHUNDA_MUST_USE PELCHUNDA_NONNULL(3, 8)
 uint8_t pelchunda_take(uint8_t *store, size_t store_len, size_t *count,
+                       const uint8_t *table, size_t table_len,
                        const uint8_t *event, size_t event_len,
                        uint8_t *repeat);
 
@@ -178,10 +193,11 @@ uint8_t pelchunda_take(uint8_t *store, size_t store_len, size_t *count,
  *          the other two
  * returns  as pelchunda_take
  * empty    as pelchunda_take; the tally's refused is raised
- * stack    13,864 bytes
+ * stack    13,992 bytes
  */
-PELCHUNDA_MUST_USE PELCHUNDA_NONNULL(3, 6, 7)
+PELCHUNDA_MUST_USE PELCHUNDA_NONNULL(3, 8, 9)
 uint8_t pelchunda_take_counted(uint8_t *store, size_t store_len, size_t *count,
+                               const uint8_t *table, size_t table_len,
                                const uint8_t *event, size_t event_len,
                                uint8_t *repeat, uint32_t tally[3]);
 
@@ -192,14 +208,17 @@ uint8_t pelchunda_take_counted(uint8_t *store, size_t store_len, size_t *count,
  * bundle   events of 192 bytes, then the trailer of 12; what stands before the
  *          first event is not read
  * count    the number of events held; more by the number of new events
+ * table    512 bytes, as for pelchunda_start
  * figures  how many events were new, repeats and refused
- * returns  0, 1, 2 or 8; a refusal leaves the store, the count and the figures
- *          as they were
- * empty    store: 1; bundle: 8, where the store is good
- * stack    22,136 bytes
+ * returns  0, 1, 12, 2 or 8; a refusal leaves the store, the count and the
+ *          figures as they were
+ * empty    store: 1; table: 12, where 1 passes; bundle: 8, where table and
+ *          store are good
+ * stack    22,216 bytes
  */
-PELCHUNDA_MUST_USE PELCHUNDA_NONNULL(3, 6)
+PELCHUNDA_MUST_USE PELCHUNDA_NONNULL(3, 8)
 uint8_t pelchunda_take_bundle(uint8_t *store, size_t store_len, size_t *count,
+                              const uint8_t *table, size_t table_len,
                               const uint8_t *bundle, size_t bundle_len,
                               uint32_t figures[3]);
 
@@ -210,73 +229,83 @@ uint8_t pelchunda_take_bundle(uint8_t *store, size_t store_len, size_t *count,
  *          4,294,967,295. A refused bundle leaves it as it was
  * returns  as pelchunda_take_bundle
  * empty    as pelchunda_take_bundle
- * stack    22,168 bytes
+ * stack    22,248 bytes
  */
-PELCHUNDA_MUST_USE PELCHUNDA_NONNULL(3, 6, 7)
+PELCHUNDA_MUST_USE PELCHUNDA_NONNULL(3, 8, 9)
 uint8_t pelchunda_take_bundle_counted(uint8_t *store, size_t store_len, size_t *count,
+                                      const uint8_t *table, size_t table_len,
                                       const uint8_t *bundle, size_t bundle_len,
                                       uint32_t figures[3], uint32_t tally[3]);
 
 /*
  * Looks up the held event with an id.
  *
+ * table    512 bytes, as for pelchunda_start
  * id       32 bytes
  * place    the event's place: its 192 bytes start at store + 192 * place
- * returns  0, 1, 2 or 9; a refusal leaves place as it was
- * empty    store or id: 1
- * stack    13,768 bytes
+ * returns  0, 1, 12, 2 or 9; a refusal leaves place as it was
+ * empty    store or id: 1; table: 12, where 1 passes
+ * stack    13,800 bytes
  */
-PELCHUNDA_MUST_USE PELCHUNDA_NONNULL(6)
+PELCHUNDA_MUST_USE PELCHUNDA_NONNULL(8)
 uint8_t pelchunda_look_up(const uint8_t *store, size_t store_len, size_t count,
+                          const uint8_t *table, size_t table_len,
                           const uint8_t *id, size_t id_len,
                           uint16_t *place);
 
 /*
  * Writes the order: a row for each settled event, by height, then by id.
  *
+ * table    512 bytes, as for pelchunda_start
  * out      a row is id (32 bytes), height (2, big-endian, at most 255),
  *          verdict (1), zero (1); the bytes past the last row stay
  * rows     the number of rows
- * returns  0, 1, 2 or 10; a refusal leaves out and rows as they were
- * empty    store: 1; out: 10, where the store is good
+ * returns  0, 1, 12, 2 or 10; a refusal leaves out and rows as they were
+ * empty    store: 1; table: 12, where 1 passes; out: 10, where table and store
+ *          are good
  * stack    33,816 bytes
  */
-PELCHUNDA_MUST_USE PELCHUNDA_NONNULL(6)
+PELCHUNDA_MUST_USE PELCHUNDA_NONNULL(8)
 uint8_t pelchunda_order(const uint8_t *store, size_t store_len, size_t count,
+                        const uint8_t *table, size_t table_len,
                         uint8_t *out, size_t out_len,
                         size_t *rows);
 
 /*
  * The verdict of the held event with an id.
  *
+ * table    512 bytes, as for pelchunda_start
  * id       32 bytes
  * verdict  0 waiting, 1 unsound, 2 void, 3 effective
- * returns  0, 1, 2 or 9; a refusal leaves verdict as it was
- * empty    store or id: 1
+ * returns  0, 1, 12, 2 or 9; a refusal leaves verdict as it was
+ * empty    store or id: 1; table: 12, where 1 passes
  * stack    33,800 bytes
  */
-PELCHUNDA_MUST_USE PELCHUNDA_NONNULL(6)
+PELCHUNDA_MUST_USE PELCHUNDA_NONNULL(8)
 uint8_t pelchunda_verdict(const uint8_t *store, size_t store_len, size_t count,
+                          const uint8_t *table, size_t table_len,
                           const uint8_t *id, size_t id_len,
                           uint8_t *verdict);
 
 /*
  * Writes the map: a row for each link that stands, by port A.
  *
+ * table    512 bytes, as for pelchunda_start
  * out      a row is port A and port B (2 bytes each, big-endian), the kinds of
  *          the connectors there (1 each), the length in metres (2,
  *          big-endian); the bytes past the last row stay
  * rows     the number of rows
  * ended    the number of links that were removed
  * joins    the number of joins that were run: rows + ended
- * returns  0, 1, 2 or 10; a refusal leaves out and the three numbers as
+ * returns  0, 1, 12, 2 or 10; a refusal leaves out and the three numbers as
  *          they were
- * empty    store: 1; out, where the store is good: 10, or 0 where no link
- *          stands
+ * empty    store: 1; table: 12, where 1 passes; out, where table and store are
+ *          good: 10, or 0 where no link stands
  * stack    36,104 bytes
  */
-PELCHUNDA_MUST_USE PELCHUNDA_NONNULL(6, 7, 8)
+PELCHUNDA_MUST_USE PELCHUNDA_NONNULL(8, 9, 10)
 uint8_t pelchunda_map(const uint8_t *store, size_t store_len, size_t count,
+                      const uint8_t *table, size_t table_len,
                       uint8_t *out, size_t out_len,
                       size_t *rows, size_t *ended, size_t *joins);
 
@@ -284,14 +313,17 @@ uint8_t pelchunda_map(const uint8_t *store, size_t store_len, size_t count,
  * Writes all held events as a bundle: the settled in order, then the waiting
  * by id, then the trailer.
  *
+ * table    512 bytes, as for pelchunda_start
  * out      192 bytes an event and 12 more; the bytes past them stay
  * bytes    the length of the bundle
- * returns  0, 1, 2 or 10; a refusal leaves out and bytes as they were
- * empty    store: 1; out: 10, where the store is good
+ * returns  0, 1, 12, 2 or 10; a refusal leaves out and bytes as they were
+ * empty    store: 1; table: 12, where 1 passes; out: 10, where table and store
+ *          are good
  * stack    19,160 bytes
  */
-PELCHUNDA_MUST_USE PELCHUNDA_NONNULL(6)
+PELCHUNDA_MUST_USE PELCHUNDA_NONNULL(8)
 uint8_t pelchunda_write_out(const uint8_t *store, size_t store_len, size_t count,
+                            const uint8_t *table, size_t table_len,
                             uint8_t *out, size_t out_len,
                             size_t *bytes);
 
@@ -300,16 +332,30 @@ uint8_t pelchunda_write_out(const uint8_t *store, size_t store_len, size_t count
  * with the numbers of links and of waiting, unsound and void events, then a
  * line for each row of the map.
  *
+ * table    512 bytes, as for pelchunda_start
  * out      the lines, each with its line feed; the bytes past them stay
  * bytes    the length of the text
- * returns  0, 1, 2 or 10; a refusal leaves out and bytes as they were
- * empty    store: 1; out: 10, where the store is good
+ * returns  0, 1, 12, 2 or 10; a refusal leaves out and bytes as they were
+ * empty    store: 1; table: 12, where 1 passes; out: 10, where table and store
+ *          are good
  * stack    38,232 bytes
  */
-PELCHUNDA_MUST_USE PELCHUNDA_NONNULL(6)
+PELCHUNDA_MUST_USE PELCHUNDA_NONNULL(8)
 uint8_t pelchunda_text(const uint8_t *store, size_t store_len, size_t count,
+                       const uint8_t *table, size_t table_len,
                        uint8_t *out, size_t out_len,
                        size_t *bytes);
+
+/*
+ * Writes document 01's cord table, which the printing program uses.
+ *
+ * out      at least 512 bytes: the table; the bytes past it stay
+ * returns  0; 10 where out is too short. A refusal leaves out as it was
+ * empty    out: 10
+ * stack    1,176 bytes
+ */
+PELCHUNDA_MUST_USE
+uint8_t pelchunda_document_table(uint8_t *out, size_t out_len);
 
 /*
  * Finds the first event of a bundle, with which a unit can be started. The
@@ -357,34 +403,42 @@ uint8_t pelchunda_ids(const uint8_t *events, size_t events_len,
 
 /* ---- functions of this header alone ---- */
 
-/* A unit: a store and its count. It has 48 KiB: rather static than on the
- * stack. Nothing but the calls below should write it. */
+/* A unit: a store, its count and its cord table. It has 49 KiB: rather static
+ * than on the stack. Nothing but the calls below should write it. */
 struct pelchunda_unit {
     uint8_t store[PELCHUNDA_STORE_BYTES];
     size_t count;
+    uint8_t table[PELCHUNDA_TABLE_BYTES];
 };
 
-/* The library's calls on a unit. An event has 192 bytes, an id 32. */
+/* The library's calls on a unit. An event has 192 bytes, an id 32, a table 512.
+ * A start keeps the table in the unit, and all calls are lent that one. */
 
-PELCHUNDA_MUST_USE PELCHUNDA_NONNULL(1, 2)
-static inline uint8_t pelchunda_unit_start(struct pelchunda_unit *unit, const uint8_t *event)
+/* `table` may be the unit's own. A refused start leaves the count 0. */
+PELCHUNDA_MUST_USE PELCHUNDA_NONNULL(1, 2, 3)
+static inline uint8_t pelchunda_unit_start(struct pelchunda_unit *unit, const uint8_t *table, const uint8_t *event)
 {
+    for (size_t i = 0; i < PELCHUNDA_TABLE_BYTES; i++) {
+        unit->table[i] = table[i];
+    }
     unit->count = 0;
-    return pelchunda_start(unit->store, sizeof unit->store, &unit->count, event, PELCHUNDA_EVENT_BYTES);
+    return pelchunda_start(unit->store, sizeof unit->store, &unit->count, unit->table, sizeof unit->table,
+                           event, PELCHUNDA_EVENT_BYTES);
 }
 
 PELCHUNDA_MUST_USE PELCHUNDA_NONNULL(1, 2, 3)
 static inline uint8_t pelchunda_unit_take(struct pelchunda_unit *unit, const uint8_t *event, uint8_t *repeat)
 {
-    return pelchunda_take(unit->store, sizeof unit->store, &unit->count, event, PELCHUNDA_EVENT_BYTES, repeat);
+    return pelchunda_take(unit->store, sizeof unit->store, &unit->count, unit->table, sizeof unit->table,
+                          event, PELCHUNDA_EVENT_BYTES, repeat);
 }
 
 PELCHUNDA_MUST_USE PELCHUNDA_NONNULL(1, 2, 3, 4)
 static inline uint8_t pelchunda_unit_take_counted(struct pelchunda_unit *unit, const uint8_t *event,
                                                   uint8_t *repeat, uint32_t tally[3])
 {
-    return pelchunda_take_counted(unit->store, sizeof unit->store, &unit->count, event, PELCHUNDA_EVENT_BYTES,
-                                  repeat, tally);
+    return pelchunda_take_counted(unit->store, sizeof unit->store, &unit->count, unit->table, sizeof unit->table,
+                                  event, PELCHUNDA_EVENT_BYTES, repeat, tally);
 }
 
 PELCHUNDA_MUST_USE PELCHUNDA_NONNULL(1, 4)
@@ -392,7 +446,8 @@ static inline uint8_t pelchunda_unit_take_bundle(struct pelchunda_unit *unit,
                                                  const uint8_t *bundle, size_t bundle_len,
                                                  uint32_t figures[3])
 {
-    return pelchunda_take_bundle(unit->store, sizeof unit->store, &unit->count, bundle, bundle_len, figures);
+    return pelchunda_take_bundle(unit->store, sizeof unit->store, &unit->count, unit->table, sizeof unit->table,
+                                 bundle, bundle_len, figures);
 }
 
 PELCHUNDA_MUST_USE PELCHUNDA_NONNULL(1, 4, 5)
@@ -400,8 +455,8 @@ static inline uint8_t pelchunda_unit_take_bundle_counted(struct pelchunda_unit *
                                                          const uint8_t *bundle, size_t bundle_len,
                                                          uint32_t figures[3], uint32_t tally[3])
 {
-    return pelchunda_take_bundle_counted(unit->store, sizeof unit->store, &unit->count, bundle, bundle_len,
-                                         figures, tally);
+    return pelchunda_take_bundle_counted(unit->store, sizeof unit->store, &unit->count, unit->table, sizeof unit->table,
+                                         bundle, bundle_len, figures, tally);
 }
 
 /* `event` is where the held event's 192 bytes start; a refusal leaves it. */
@@ -410,7 +465,8 @@ static inline uint8_t pelchunda_unit_look_up(const struct pelchunda_unit *unit, 
                                              const uint8_t **event)
 {
     uint16_t place = 0;
-    uint8_t number = pelchunda_look_up(unit->store, sizeof unit->store, unit->count, id, PELCHUNDA_ID_BYTES, &place);
+    uint8_t number = pelchunda_look_up(unit->store, sizeof unit->store, unit->count, unit->table, sizeof unit->table,
+                                       id, PELCHUNDA_ID_BYTES, &place);
     if (number == PELCHUNDA_OK) {
         *event = unit->store + (size_t)place * PELCHUNDA_EVENT_BYTES;
     }
@@ -421,34 +477,39 @@ PELCHUNDA_MUST_USE PELCHUNDA_NONNULL(1, 4)
 static inline uint8_t pelchunda_unit_order(const struct pelchunda_unit *unit,
                                            uint8_t *out, size_t out_len, size_t *rows)
 {
-    return pelchunda_order(unit->store, sizeof unit->store, unit->count, out, out_len, rows);
+    return pelchunda_order(unit->store, sizeof unit->store, unit->count, unit->table, sizeof unit->table,
+                           out, out_len, rows);
 }
 
 PELCHUNDA_MUST_USE PELCHUNDA_NONNULL(1, 2, 3)
 static inline uint8_t pelchunda_unit_verdict(const struct pelchunda_unit *unit, const uint8_t *id, uint8_t *verdict)
 {
-    return pelchunda_verdict(unit->store, sizeof unit->store, unit->count, id, PELCHUNDA_ID_BYTES, verdict);
+    return pelchunda_verdict(unit->store, sizeof unit->store, unit->count, unit->table, sizeof unit->table,
+                             id, PELCHUNDA_ID_BYTES, verdict);
 }
 
 PELCHUNDA_MUST_USE PELCHUNDA_NONNULL(1, 4, 5, 6)
 static inline uint8_t pelchunda_unit_map(const struct pelchunda_unit *unit, uint8_t *out, size_t out_len,
                                          size_t *rows, size_t *ended, size_t *joins)
 {
-    return pelchunda_map(unit->store, sizeof unit->store, unit->count, out, out_len, rows, ended, joins);
+    return pelchunda_map(unit->store, sizeof unit->store, unit->count, unit->table, sizeof unit->table,
+                         out, out_len, rows, ended, joins);
 }
 
 PELCHUNDA_MUST_USE PELCHUNDA_NONNULL(1, 4)
 static inline uint8_t pelchunda_unit_write_out(const struct pelchunda_unit *unit,
                                                uint8_t *out, size_t out_len, size_t *bytes)
 {
-    return pelchunda_write_out(unit->store, sizeof unit->store, unit->count, out, out_len, bytes);
+    return pelchunda_write_out(unit->store, sizeof unit->store, unit->count, unit->table, sizeof unit->table,
+                               out, out_len, bytes);
 }
 
 PELCHUNDA_MUST_USE PELCHUNDA_NONNULL(1, 4)
 static inline uint8_t pelchunda_unit_text(const struct pelchunda_unit *unit,
                                           uint8_t *out, size_t out_len, size_t *bytes)
 {
-    return pelchunda_text(unit->store, sizeof unit->store, unit->count, out, out_len, bytes);
+    return pelchunda_text(unit->store, sizeof unit->store, unit->count, unit->table, sizeof unit->table,
+                          out, out_len, bytes);
 }
 
 /* Rows, read from an order or a map that a call wrote. */
@@ -498,11 +559,13 @@ static inline struct pelchunda_map_row pelchunda_map_row_at(const uint8_t *map, 
 /* The English word for a number that a call returned. */
 static inline const char *pelchunda_number_word(uint8_t number)
 {
+    static const char none[] = "no number of a unit";
     static const char *const words[] = {
         "done",          "wrong length", "bad store",  "bad field", "other room",       "wrong create event",
-        "cord too long", "store full",   "bad bundle", "not held",  "output too short",
+        "cord too long", "store full",   "bad bundle", "not held",  "output too short", none,
+        "bad cord table",
     };
-    return number < sizeof words / sizeof words[0] ? words[number] : "no number of a unit";
+    return number < sizeof words / sizeof words[0] ? words[number] : none;
 }
 
 /* The English word for a verdict. */

@@ -9,19 +9,21 @@ import re
 import struct
 import sys
 
-from replay_script import ROOT, records
+from replay_script import DOCUMENT_TABLE, ROOT, records
 
 EVENT, LONGEST_FILE = 192, 65536
 UNSET = 165  # what a number shows that a refused call leaves
+OUT_FILL = b"\xee"  # what an output has before a call
 VALUES = 7
 
 # Which functions a call of the table makes. A take and a bundle are made with the tally and, as `t` and `b`, without it.
 MADE_BY = {
     "S": "start", "T": "take_counted", "t": "take", "B": "take_bundle_counted", "b": "take_bundle", "L": "look_up",
-    "O": "order", "V": "verdict", "M": "map", "W": "write_out", "R": "first_event text", "I": "id", "J": "ids", "K": "version",
+    "O": "order", "V": "verdict", "M": "map", "W": "write_out", "R": "first_event text", "I": "id", "J": "ids",
+    "k": "document_table", "v": "version",
 }
-NUMBERS, VERDICTS = set(range(1, 11)), set(range(4))
-TALLIED, OUTPUTS, SETTINGS = "TB", "OMW", "CPNYZ"
+NUMBERS, VERDICTS = {*range(1, 11), 12}, set(range(4))
+TALLIED, OUTPUTS, SETTINGS = "TB", "OMW", "CPNYKZ"
 
 
 def parts():
@@ -103,8 +105,9 @@ def expected(letter, line):
 
 
 def calls_of(part):
-    """The calls of a part. Every second take is made without the tally, which is set right before the next one."""
+    """The calls of a part, behind a reset. Every second take is made without the tally, which is set right before the next."""
     yield "Z", b"", (0, [], None)
+    yield "K", DOCUMENT_TABLE, (0, [], None)
     tally, due, plain = [0, 0, 0], False, False
     for letter, payload, line in part:
         if letter in SETTINGS:
@@ -136,6 +139,14 @@ def id_calls(found):
     yield "J", events[0] + events[1][:-1], (1, [], None)
 
 
+def table_calls():
+    """Document 01's cord table: to an output as long as it is, longer, too short, and empty."""
+    for n in (512, 600, 511, 0):
+        fits = n >= len(DOCUMENT_TABLE)
+        out = DOCUMENT_TABLE + OUT_FILL * (n - len(DOCUMENT_TABLE)) if fits else OUT_FILL * n
+        yield "k", struct.pack(">I", n), (0 if fits else 10, [], digest(out))
+
+
 def left_out(calls):
     """The functions, numbers and verdicts that no call has."""
     functions = {f for letter, _, _ in calls for f in MADE_BY.get(letter, "").split()}
@@ -162,7 +173,8 @@ def table(calls):
 
 def main():
     found = chosen(parts())
-    calls = [("K", b"", (0, [], None)), *(call for part in found for call in calls_of(part)), *id_calls(found)]
+    calls = [("v", b"", (0, [], None)), *table_calls()]
+    calls += [*(call for part in found for call in calls_of(part)), *id_calls(found)]
     missing = [name for names in left_out(calls) for name in sorted(names)]
     if missing:
         sys.exit(f"left out: {missing}")

@@ -67,7 +67,8 @@ def parts():
             yield segment, True
         else:
             part, printed = part + segment, printed + stores
-    yield part, False
+    if part:
+        yield part, False
 
 
 def replayed():

@@ -16,12 +16,13 @@ pub enum Kind {
     Map,
     WriteOut,
     Text,
+    DocumentTable,
     FirstEvent,
     Id,
     Ids,
 }
 
-pub static KINDS: [Kind; 14] = [
+pub static KINDS: [Kind; 15] = [
     Kind::Start,
     Kind::Take,
     Kind::TakeCounted,
@@ -33,6 +34,7 @@ pub static KINDS: [Kind; 14] = [
     Kind::Map,
     Kind::WriteOut,
     Kind::Text,
+    Kind::DocumentTable,
     Kind::FirstEvent,
     Kind::Id,
     Kind::Ids,
@@ -43,19 +45,25 @@ pub fn holding() -> &'static [Kind] {
     &KINDS[1..11]
 }
 
+/// The kinds that are lent a store and with it a cord table: a start, and those above.
+pub fn with_table() -> &'static [Kind] {
+    &KINDS[..11]
+}
+
 /// Everything that a call is lent: `offered` is an event, some events, a bundle or an id. A kind leaves alone what it has no use for.
 #[derive(Clone)]
 pub struct Call {
     pub kind: Kind,
     pub store: Vec<u8>,
     pub count: usize,
+    pub table: Vec<u8>,
     pub offered: Vec<u8>,
     pub out: Vec<u8>,
     pub tally: [u32; 3],
 }
 
 /// Everything that a call shows: the number, the numbers behind its pointers, what it was lent as it left it, and whether
-/// it wrote outside or into what it was offered.
+/// it wrote outside, into the table or into what it was offered.
 #[derive(Clone, PartialEq)]
 pub struct Answer {
     pub number: u8,
@@ -109,37 +117,40 @@ fn sizes(numbers: &[usize]) -> Vec<u64> {
 
 /// The unit's answer.
 pub fn by_unit(c: &Call) -> Answer {
-    let [mut store, mut offered, mut out] = [&c.store, &c.offered, &c.out].map(|bytes| Guarded::new(bytes));
+    let [mut store, mut out] = [&c.store, &c.out].map(|bytes| Guarded::new(bytes));
+    let [mut table, mut offered] = [&c.table, &c.offered].map(|bytes| Guarded::new(bytes));
     let mut a = c.untouched();
-    (a.number, a.values) = ask_unit(c, &mut a, store.lent(), offered.lent(), out.lent());
-    a.strayed = !(store.whole() && offered.whole() && out.whole()) || offered.lent() != c.offered;
+    (a.number, a.values) = ask_unit(c, &mut a, store.lent(), table.lent(), offered.lent(), out.lent());
+    a.strayed = !(store.whole() && table.whole() && offered.whole() && out.whole());
+    a.strayed |= table.lent() != c.table || offered.lent() != c.offered;
     a.store.copy_from_slice(store.lent());
     a.out.copy_from_slice(out.lent());
     a
 }
 
-fn ask_unit(c: &Call, a: &mut Answer, s: &mut [u8], offered: &[u8], o: &mut [u8]) -> (u8, Vec<u64>) {
+fn ask_unit(c: &Call, a: &mut Answer, s: &mut [u8], k: &[u8], offered: &[u8], o: &mut [u8]) -> (u8, Vec<u64>) {
     let byte = |(n, v): (u8, u8)| (n, vec![u64::from(v)]);
     let size = |(n, v): (u8, usize)| (n, sizes(&[v]));
     let figures = |(n, v): (u8, [u32; 3])| (n, wide(v));
     match c.kind {
-        Kind::Start => (unit::start(s, &mut a.count, offered), vec![]),
-        Kind::Take => byte(unit::take(s, &mut a.count, offered)),
-        Kind::TakeCounted => byte(unit::take_counted(s, &mut a.count, offered, &mut a.tally)),
-        Kind::TakeBundle => figures(unit::take_bundle(s, &mut a.count, offered)),
-        Kind::TakeBundleCounted => figures(unit::take_bundle_counted(s, &mut a.count, offered, &mut a.tally)),
+        Kind::Start => (unit::start(s, &mut a.count, k, offered), vec![]),
+        Kind::Take => byte(unit::take(s, &mut a.count, k, offered)),
+        Kind::TakeCounted => byte(unit::take_counted(s, &mut a.count, k, offered, &mut a.tally)),
+        Kind::TakeBundle => figures(unit::take_bundle(s, &mut a.count, k, offered)),
+        Kind::TakeBundleCounted => figures(unit::take_bundle_counted(s, &mut a.count, k, offered, &mut a.tally)),
         Kind::LookUp => {
-            let (n, place) = unit::look_up(s, c.count, offered);
+            let (n, place) = unit::look_up(s, c.count, k, offered);
             (n, vec![u64::from(place)])
         }
-        Kind::Order => size(unit::order(s, c.count, o)),
-        Kind::Verdict => byte(unit::verdict(s, c.count, offered)),
+        Kind::Order => size(unit::order(s, c.count, k, o)),
+        Kind::Verdict => byte(unit::verdict(s, c.count, k, offered)),
         Kind::Map => {
-            let (n, values) = unit::map(s, c.count, o);
+            let (n, values) = unit::map(s, c.count, k, o);
             (n, sizes(&values))
         }
-        Kind::WriteOut => size(unit::write_out(s, c.count, o)),
-        Kind::Text => size(unit::text(s, c.count, o)),
+        Kind::WriteOut => size(unit::write_out(s, c.count, k, o)),
+        Kind::Text => size(unit::text(s, c.count, k, o)),
+        Kind::DocumentTable => (unit::document_table(o), vec![]),
         Kind::FirstEvent => size(unit::first_event(offered)),
         Kind::Id => (unit::id(offered, o), vec![]),
         Kind::Ids => (unit::ids(offered, o), vec![]),
@@ -159,7 +170,7 @@ pub fn by_reference(c: &Call) -> Answer {
     let mut a = c.untouched();
     (a.number, a.values) = match c.kind {
         Kind::Start => {
-            let (answer, count) = reference::start(&mut a.store, &c.offered);
+            let (answer, count) = reference::start(&c.table, &mut a.store, &c.offered);
             a.count = count;
             shown(answer, |()| vec![], vec![])
         }
@@ -167,21 +178,26 @@ pub fn by_reference(c: &Call) -> Answer {
         Kind::TakeBundle | Kind::TakeBundleCounted => take_bundle(c, &mut a),
         Kind::LookUp => {
             let place = |part: &[u8]| vec![(part.as_ptr() as u64 - a.store.as_ptr() as u64) / 192];
-            shown(reference::lookup(&a.store, c.count, &c.offered), place, vec![UNSET_PLACE.into()])
+            shown(reference::lookup(&c.table, &a.store, c.count, &c.offered), place, vec![UNSET_PLACE.into()])
         }
-        Kind::Verdict => {
-            shown(reference::verdict(&a.store, c.count, &c.offered), |v| vec![v.into()], vec![UNSET_BYTE.into()])
+        Kind::Verdict => shown(
+            reference::verdict(&c.table, &a.store, c.count, &c.offered),
+            |v| vec![v.into()],
+            vec![UNSET_BYTE.into()],
+        ),
+        Kind::Order => {
+            shown(reference::order(&c.table, &a.store, c.count, &mut a.out), |n| sizes(&[n]), sizes(&[UNSET_SIZE]))
         }
-        Kind::Order => shown(reference::order(&a.store, c.count, &mut a.out), |n| sizes(&[n]), sizes(&[UNSET_SIZE])),
         Kind::Map => {
             let unset = sizes(&[UNSET_SIZE, UNSET_SIZE + 1, UNSET_SIZE + 2]);
             let values = |m: reference::MapAnswer| vec![m.rows as u64, m.ended.into(), m.joins.into()];
-            shown(reference::map(&a.store, c.count, &mut a.out), values, unset)
+            shown(reference::map(&c.table, &a.store, c.count, &mut a.out), values, unset)
         }
         Kind::WriteOut => {
-            shown(reference::write_out(&a.store, c.count, &mut a.out), |n| sizes(&[n]), sizes(&[UNSET_SIZE]))
+            shown(reference::write_out(&c.table, &a.store, c.count, &mut a.out), |n| sizes(&[n]), sizes(&[UNSET_SIZE]))
         }
         Kind::Text => text(c, &mut a),
+        Kind::DocumentTable => (document_table(&mut a), vec![]),
         Kind::FirstEvent => shown(reference::first_event(&c.offered), |n| sizes(&[n]), sizes(&[UNSET_SIZE])),
         Kind::Id => (id(c, &mut a), vec![]),
         Kind::Ids => (ids(c, &mut a), vec![]),
@@ -196,7 +212,7 @@ fn record(t: [u32; 3]) -> Tally {
 
 fn take(c: &Call, a: &mut Answer) -> (u8, Vec<u64>) {
     let mut tally = record(c.tally);
-    let answer = reference::take(&mut a.store, &mut a.count, &c.offered, &mut tally);
+    let answer = reference::take(&c.table, &mut a.store, &mut a.count, &c.offered, &mut tally);
     if c.kind == Kind::TakeCounted {
         a.tally = [tally.new, tally.repeats, tally.refused];
     }
@@ -205,7 +221,7 @@ fn take(c: &Call, a: &mut Answer) -> (u8, Vec<u64>) {
 
 fn take_bundle(c: &Call, a: &mut Answer) -> (u8, Vec<u64>) {
     let mut tally = record(c.tally);
-    let answer = reference::take_bundle(&mut a.store, &mut a.count, &c.offered, &mut tally);
+    let answer = reference::take_bundle(&c.table, &mut a.store, &mut a.count, &c.offered, &mut tally);
     if c.kind == Kind::TakeBundleCounted {
         a.tally = [tally.new, tally.repeats, tally.refused];
     }
@@ -213,12 +229,18 @@ fn take_bundle(c: &Call, a: &mut Answer) -> (u8, Vec<u64>) {
 }
 
 fn text(c: &Call, a: &mut Answer) -> (u8, Vec<u64>) {
-    let answer = reference::text(&a.store, c.count).and_then(|text| {
+    let answer = reference::text(&c.table, &a.store, c.count).and_then(|text| {
         let out = a.out.get_mut(..text.len()).ok_or(10u8)?;
         out.copy_from_slice(text.as_bytes());
         Ok(text.len())
     });
     shown(answer, |n| sizes(&[n]), sizes(&[UNSET_SIZE]))
+}
+
+fn document_table(a: &mut Answer) -> u8 {
+    let Some(out) = a.out.get_mut(..512) else { return 10 };
+    out.copy_from_slice(&reference::CORD_BYTES);
+    0
 }
 
 fn id(c: &Call, a: &mut Answer) -> u8 {

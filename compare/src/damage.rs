@@ -1,6 +1,7 @@
-//! Altered events, bundles, ids, stores, counts and lengths.
+//! Altered events, bundles, ids, stores, tables, counts and lengths.
 
 use crate::reference::make::Rng;
+use crate::tables;
 
 /// Values at which a field's meaning changes.
 pub const EDGES: [u8; 18] = [0, 1, 2, 3, 4, 5, 6, 7, 8, 9, 10, 15, 16, 31, 32, 127, 128, 255];
@@ -91,6 +92,24 @@ pub fn store(rng: &mut Rng, store: &mut [u8], count: usize) {
         _ => {
             let at = 192 * place + position(rng);
             byte(rng, store, at);
+        }
+    }
+}
+
+/// Alters a table of 512 bytes: its length, a byte, an entry alone, or an entry and its mirror, which may leave it good.
+pub fn table(rng: &mut Rng, table: &mut Vec<u8>) {
+    let kinds = (rng.below(16) as u8, rng.below(16) as u8);
+    let metres = [0, 1, 2, 255, 256, u16::MAX][rng.below(6)];
+    match rng.below(4) {
+        0 => length(rng, table),
+        1 => {
+            let at = rng.below(table.len());
+            byte(rng, table, at);
+        }
+        2 => tables::set(table, kinds, metres),
+        _ => {
+            tables::set(table, kinds, metres);
+            tables::set(table, (kinds.1, kinds.0), metres);
         }
     }
 }

@@ -1,7 +1,8 @@
 //! Faults put into the unit's answers on purpose: the comparison must find each one.
 
-use crate::cases::{Answer, Call, Kind};
+use crate::cases::{by_unit, with_table, Answer, Call, Kind};
 use crate::run;
+use crate::tables;
 use crate::unit::{UNSET_BYTE, UNSET_SIZE};
 
 pub struct Fault {
@@ -20,7 +21,7 @@ const fn second(name: &'static str, alter: fn(&Call, &mut Answer)) -> Fault {
 }
 
 #[rustfmt::skip]
-const FAULTS: [Fault; 43] = [
+const FAULTS: [Fault; 57] = [
     fault("verdict 2 shown as 3", |c, a| value(c, a, Kind::Verdict, 2, 3)),
     fault("verdict 0 shown as 1", |c, a| value(c, a, Kind::Verdict, 0, 1)),
     fault("an id not held is waiting", |c, a| if c.kind == Kind::Verdict { number(a, 9, 0, &[0]) }),
@@ -61,10 +62,55 @@ const FAULTS: [Fault; 43] = [
     fault("a short output of ids shown as 1", |c, a| if c.kind == Kind::Ids && a.number == 10 { a.number = 1 }),
     fault("a bit of an id", |c, a| if good(c, a, Kind::Id) { a.out[31] ^= 1 }),
     fault("the fifth of several ids", |c, a| if good(c, a, Kind::Ids) && c.offered.len() > 768 { a.out[128] ^= 1 }),
+    fault("12 is never given", |c, a| if a.number == 12 { *a = by_table(c, tables::document()) }),
+    fault("a start does not test the table", |c, a| if c.kind == Kind::Start { *a = by_table(c, tables::document()) }),
+    fault("12 comes after 2", |c, a| later(c, a, 2)),
+    fault("12 comes after 3", |c, a| later(c, a, 3)),
+    fault("12 comes after 10", |c, a| later(c, a, 10)),
+    fault("12 comes before 1", |c, a| if a.number == 1 && another_length(c) { a.number = 12 }),
+    fault("check 6 by document 01's table", |c, a| if a.number != 12 { *a = by_table(c, tables::document()) }),
+    fault("a longer table is cut", |c, a| if c.table.len() > 512 { *a = by_table(c, c.table[..512].to_vec()) }),
+    fault("an entry is not compared with its mirror", |c, a| *a = by_table(c, mended(&c.table, |x, y| x / 4 == y / 4))),
+    fault("unlike families are not tested", |c, a| *a = by_table(c, mended(&c.table, |x, y| x / 4 != y / 4))),
+    fault("a take refused by 12 not tallied", |c, a| if c.kind == Kind::TakeCounted && a.number == 12 { a.tally = c.tally }),
+    fault("a start refused by 12 keeps the count", |c, a| if c.kind == Kind::Start && a.number == 12 { a.count = c.count }),
+    fault("an entry of document 01's table", |c, a| if good(c, a, Kind::DocumentTable) { a.out[171] ^= 1 }),
+    fault("a short output of the table is enough", |c, a| if c.kind == Kind::DocumentTable { number(a, 10, 0, &[]) }),
     second("the second unit's order", |c, a| if good(c, a, Kind::Order) { exchange(a, 36) }),
     second("the second unit's map", |c, a| if good(c, a, Kind::Map) { flip_before(a, 8) }),
     second("the second unit's write-out", |c, a| if good(c, a, Kind::WriteOut) { a.out[20] ^= 1 }),
 ];
+
+/// The unit's answer where it is lent another table.
+fn by_table(c: &Call, table: Vec<u8>) -> Answer {
+    by_unit(&Call { table, ..c.clone() })
+}
+
+/// Shows another number in place of 12 where both are due.
+fn later(c: &Call, a: &mut Answer, number: u8) {
+    let other = by_table(c, tables::document());
+    if a.number == 12 && other.number == number {
+        *a = other;
+    }
+}
+
+/// Whether the call is lent a table of another length.
+fn another_length(c: &Call) -> bool {
+    with_table().contains(&c.kind) && c.table.len() != 512
+}
+
+/// A table without the faults of the pairs of kinds for which a test holds: the entry of the larger kind first is the other's,
+/// and both are 0 between unlike families.
+fn mended(table: &[u8], test: fn(u8, u8) -> bool) -> Vec<u8> {
+    let mut all = table.to_vec();
+    let pairs = (0..16).flat_map(|x| (0..x).map(move |y| (x, y))).filter(|&(x, y)| table.len() == 512 && test(x, y));
+    for (x, y) in pairs {
+        let metres = if x / 4 == y / 4 { tables::entry(&all, (y, x)) } else { 0 };
+        tables::set(&mut all, (x, y), metres);
+        tables::set(&mut all, (y, x), metres);
+    }
+    all
+}
 
 /// Whether the call is of a kind and was answered.
 fn good(c: &Call, a: &Answer, kind: Kind) -> bool {

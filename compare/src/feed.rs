@@ -4,6 +4,7 @@ use crate::cases::{by_reference, Answer, Call, Kind};
 use crate::damage;
 use crate::reference::make::{bundle, id, Ev, Rng};
 use crate::reference::STORE;
+use crate::tables;
 use crate::trial::Trial;
 
 /// What a unit's caller keeps.
@@ -11,6 +12,7 @@ use crate::trial::Trial;
 pub struct Fed {
     pub store: Vec<u8>,
     pub count: usize,
+    pub table: Vec<u8>,
     pub tally: [u32; 3],
 }
 
@@ -43,7 +45,8 @@ pub fn shuffle<T>(rng: &mut Rng, list: &mut [T]) {
 impl Fed {
     /// A call of the kind on this unit, with nothing offered and no output.
     pub fn call(&self, kind: Kind) -> Call {
-        Call { kind, store: self.store.clone(), count: self.count, offered: vec![], out: vec![], tally: self.tally }
+        let (store, table) = (self.store.clone(), self.table.clone());
+        Call { kind, store, count: self.count, table, offered: vec![], out: vec![], tally: self.tally }
     }
 
     /// Keeps what a call left.
@@ -61,11 +64,16 @@ impl Fed {
 }
 
 impl Trial<'_> {
-    /// A unit started with an event, in a store of zeros or of noise.
+    /// A unit started with an event and document 01's table.
     pub fn start(&mut self, creator: &Ev) -> Fed {
+        self.start_with(creator, tables::document())
+    }
+
+    /// A unit started with an event and a good table, in a store of zeros or of noise.
+    pub fn start_with(&mut self, creator: &Ev, table: Vec<u8>) -> Fed {
         let store = if self.one_in(2) { vec![0; STORE] } else { noise(&mut self.rng, STORE) };
         let tally = [0; 3].map(|_: u32| figure(&mut self.rng));
-        let mut fed = Fed { store, count: 0, tally };
+        let mut fed = Fed { store, count: 0, table, tally };
         let a = self.compare(Call { offered: creator.to_vec(), ..fed.call(Kind::Start) });
         fed.keep(&a);
         fed
@@ -122,6 +130,7 @@ impl Trial<'_> {
             (1.., _) => 0,
             (_, Kind::Order) => 36 * a.values[0] as usize,
             (_, Kind::Map) => 8 * a.values[0] as usize,
+            (_, Kind::DocumentTable) => 512,
             (_, Kind::Id) => 32,
             (_, Kind::Ids) => call.offered.len() / 6,
             _ => a.values[0] as usize,
@@ -171,12 +180,14 @@ impl Trial<'_> {
         call
     }
 
-    /// Alters the store or the count that a call is lent.
+    /// Alters the store, the count or the table that a call is lent, or lends it another table.
     pub fn poke(&mut self, call: &mut Call) {
-        match self.rng.below(6) {
+        match self.rng.below(9) {
             0 => call.count = damage::COUNTS[self.rng.below(damage::COUNTS.len())],
             1 => damage::length(&mut self.rng, &mut call.store),
             2 => call.count = 1 + self.rng.below(256),
+            3 | 4 => damage::table(&mut self.rng, &mut call.table),
+            5 => call.table = tables::any(&mut self.rng),
             _ => damage::store(&mut self.rng, &mut call.store, call.count),
         }
     }

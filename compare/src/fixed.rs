@@ -1,16 +1,18 @@
-//! Cases that every run has: each byte of an event, of a small bundle and of a small store altered in turn; each field at
-//! its edges; wrong lengths and counts for every call; a full store; bundles of 0 to 257; outputs one byte too short.
+//! Cases that every run has: each byte of an event, of a small bundle, of a small store and of a cord table altered in turn;
+//! each field at its edges; wrong lengths and counts for every call; bad tables, and good ones unlike document 01's; a full
+//! store; bundles of 0 to 257; outputs one byte too short.
 
-use crate::cases::{holding, Call, Kind, KINDS};
+use crate::cases::{holding, with_table, Call, Kind, KINDS};
 use crate::damage;
 use crate::feed::{noise, Fed};
 use crate::reference::make::{bundle, create, grant, id, join, revoke, unplug, Ev};
-use crate::reference::{Id, CORDS, STORE};
+use crate::reference::{Id, STORE, TABLE};
 use crate::seen;
 use crate::shapes;
+use crate::tables;
 use crate::trial::Trial;
 
-pub const CASES: [fn(&mut Trial); 16] = [
+pub const CASES: [fn(&mut Trial); 19] = [
     |t| each_byte_of_event(t, 0),
     |t| each_byte_of_event(t, 1),
     |t| each_byte_of_event(t, 2),
@@ -18,8 +20,11 @@ pub const CASES: [fn(&mut Trial); 16] = [
     |t| each_byte_of_event(t, 4),
     each_byte_of_bundle,
     each_byte_of_store,
+    each_byte_of_table,
     edges,
     cords,
+    bad_tables,
+    other_table,
     wrong_places,
     starts,
     lengths,
@@ -95,6 +100,21 @@ fn each_byte_of_store(t: &mut Trial) {
     }
 }
 
+/// Lends each call in turn document 01's table with one byte altered.
+fn each_byte_of_table(t: &mut Trial) {
+    let fed = small_unit(t);
+    let set = small_set();
+    for at in 0..TABLE {
+        let kind = with_table()[at % with_table().len()];
+        let mut call = fed.call(kind);
+        damage::byte(&mut t.rng, &mut call.table, at);
+        t.seen.table_byte(at);
+        call.offered = offered_to(kind, &set);
+        call.out = noise(&mut t.rng, 700);
+        t.compare(call);
+    }
+}
+
 /// Offers an event, and holds it: a take into a small unit, then a take and a reading with it in the place behind.
 fn offered_and_held(t: &mut Trial, fed: &Fed, event: Ev) {
     t.offer(&mut fed.clone(), event.to_vec());
@@ -130,14 +150,51 @@ fn edges(t: &mut Trial) {
     }
 }
 
-/// Joins of all pairs of connector kinds, as long as they may be and one metre longer.
+/// Joins of all pairs of connector kinds, as long as they may be and one metre longer, by document 01's table and by others.
 fn cords(t: &mut Trial) {
     let fed = small_unit(t);
     let ci = id(&small_set()[0]);
-    for kinds in (0..16).flat_map(|a| [0, 1, 2, 3, 5].map(|step| (a, (a + step) % 16))) {
-        let limit = CORDS[16 * kinds.0 as usize + kinds.1 as usize];
-        for length in [limit, limit + 1] {
-            t.offer(&mut fed.clone(), join(0, &ci, (1, 2), kinds, length, &[ci]).to_vec());
+    for table in tables::goods() {
+        for kinds in (0..16).flat_map(|a| [0, 1, 2, 3, 5].map(|step| (a, (a + step) % 16))) {
+            let limit = tables::entry(&table, kinds);
+            for length in [limit, limit.saturating_add(1)] {
+                let event = join(0, &ci, (1, 2), kinds, length, &[ci]);
+                t.offer(&mut Fed { table: table.clone(), ..fed.clone() }, event.to_vec());
+            }
+        }
+    }
+}
+
+/// Every call that is lent a table, with bad ones: alone, and with a wrong length, which comes before, or a wrong count, a
+/// bad offer or no output, which come after.
+fn bad_tables(t: &mut Trial) {
+    let fed = small_unit(t);
+    let set = small_set();
+    for (table, kind) in tables::bads().into_iter().flat_map(|b| with_table().iter().map(move |k| (b.clone(), *k))) {
+        let (offered, out) = (offered_to(kind, &set), noise(&mut t.rng, 800));
+        let call = Call { table, offered, out, ..fed.call(kind) };
+        let mut field = call.offered.clone();
+        field[2] = 77;
+        t.compare(Call { store: sized(&call.store, STORE - 1), ..call.clone() });
+        t.compare(Call { offered: sized(&call.offered, call.offered.len() - 1), ..call.clone() });
+        t.compare(Call { count: 0, ..call.clone() });
+        t.compare(Call { offered: field, ..call.clone() });
+        t.compare(Call { offered: set[3].to_vec(), out: vec![], ..call.clone() });
+        t.compare(call);
+    }
+}
+
+/// Every call on a store that holds a join of 12 m with kinds 4 and 5, by tables that allow it, by ones that do not, which
+/// is 2, and then by document 01's again.
+fn other_table(t: &mut Trial) {
+    let mut fed = small_unit(t);
+    let set = small_set();
+    t.offer(&mut fed, set[3].to_vec());
+    let entries = [80, 12, 11, 0, 65_535, 256].map(|metres| tables::altered(&[((4, 5), metres), ((5, 4), metres)]));
+    for table in entries.into_iter().chain(tables::goods()) {
+        for (kind, table) in holding().iter().flat_map(|k| [(*k, table.clone()), (*k, tables::document())]) {
+            let (offered, out) = (offered_to(kind, &set), noise(&mut t.rng, 800));
+            t.compare(Call { table, offered, out, ..fed.call(kind) });
         }
     }
 }
@@ -211,24 +268,30 @@ fn sized(bytes: &[u8], len: usize) -> Vec<u8> {
     all
 }
 
-/// Every call with every slice of a wrong length, alone and with a wrong count or a wrong second slice.
+/// Every call with every slice of a wrong length, alone and with a wrong count or other wrong slices.
 fn lengths(t: &mut Trial) {
     let fed = small_unit(t);
     let set = small_set();
     for kind in KINDS {
         let offered = offered_to(kind, &set);
-        for store in [0, STORE - 1, STORE, STORE + 1] {
+        for (store, table) in
+            [0, STORE - 1, STORE, STORE + 1].into_iter().flat_map(|s| [0, 511, 512, 513].map(|k| (s, k)))
+        {
             for len in [0, 11, 12, offered.len() - 1, offered.len(), offered.len() + 1] {
                 let count = if t.one_in(4) { 0 } else { fed.count };
                 let out = noise(&mut t.rng, if matches!(kind, Kind::Id | Kind::Ids) { 32 } else { 800 });
-                let (store, offered) = (sized(&fed.store, store), sized(&offered, len));
-                t.compare(Call { store, offered, count, out, ..fed.call(kind) });
+                let (store, table) = (sized(&fed.store, store), sized(&fed.table, table));
+                t.compare(Call { store, table, offered: sized(&offered, len), count, out, ..fed.call(kind) });
             }
         }
     }
     for len in [0, 31, 32, 33] {
         let out = noise(&mut t.rng, len);
         t.compare(Call { offered: set[1].to_vec(), out, ..fed.call(Kind::Id) });
+    }
+    for len in [0, 1, 511, 512, 513] {
+        let out = noise(&mut t.rng, len);
+        t.compare(Call { out, ..fed.call(Kind::DocumentTable) });
     }
     for n in [0, 1, 2, 3, 4, 5, 7, 8, 255, 256, 257] {
         for (events, ids) in [(0, 0), (1, 0), (0, 1), (191, 31), (192, 0), (192, 31), (0, 32)] {

@@ -10,6 +10,7 @@ mod run;
 mod seen;
 mod shapes;
 mod stack;
+mod tables;
 mod times;
 mod trial;
 mod unit;

@@ -9,6 +9,7 @@ use crate::reference::make::{bundle, create, id, Ev};
 use crate::reference::STORE;
 use crate::seen::Seen;
 use crate::shapes;
+use crate::tables;
 use crate::trial::{Trial, Voice};
 
 /// Cases with a difference after which a run stops.
@@ -101,10 +102,22 @@ fn arrival(t: &mut Trial, set: &[Ev]) -> Vec<Ev> {
     events
 }
 
+/// A unit with a random good table. Now and then it is started again with an altered one, and what that leaves is not kept.
+fn a_unit(t: &mut Trial, creator: &Ev) -> Fed {
+    let table = tables::any(&mut t.rng);
+    let fed = t.start_with(creator, table);
+    if t.one_in(4) {
+        let mut call = Call { offered: creator.to_vec(), ..fed.call(Kind::Start) };
+        damage::table(&mut t.rng, &mut call.table);
+        t.compare(call);
+    }
+    fed
+}
+
 /// One unit fed with a set, with damaged offers between, and read now and then.
 fn random(t: &mut Trial) {
     let set = a_set(t, 280);
-    let mut fed = t.start(&set[0]);
+    let mut fed = a_unit(t, &set[0]);
     let mut events = &arrival(t, &set)[..];
     while !events.is_empty() {
         let singles = t.rng.below(4).min(events.len());
@@ -128,7 +141,7 @@ fn random(t: &mut Trial) {
 fn sets(t: &mut Trial) {
     for _ in 0..8 {
         let set = a_set(t, 100);
-        let mut fed = t.start(&set[0]);
+        let mut fed = a_unit(t, &set[0]);
         let offered = t.packed(&set[..set.len().min(256)]);
         t.offer_bundle(&mut fed, offered);
         for (kind, row) in [(Kind::Order, 36), (Kind::Map, 8)] {
@@ -138,7 +151,7 @@ fn sets(t: &mut Trial) {
     }
 }
 
-/// One damaged offer: an event, a bundle, or a good event with a poked store.
+/// One damaged offer: an event, a bundle, or a good event with a poked store or table.
 fn spoiled(t: &mut Trial, fed: &mut Fed, event: Ev) {
     match t.rng.below(4) {
         0 => {
@@ -174,23 +187,25 @@ fn first_event(t: &mut Trial, set: &[Ev]) {
         damage::bundle(&mut t.rng, &mut offered);
     }
     let (store, tally) = (noise(&mut t.rng, STORE), [0; 3]);
-    t.compare(Call { kind: Kind::FirstEvent, store, count: 0, offered, out: vec![], tally });
+    t.compare(Call { kind: Kind::FirstEvent, store, count: 0, table: vec![], offered, out: vec![], tally });
 }
 
-/// The id of an event, and of several, to outputs that may be too short or longer.
+/// The id of an event, and of several, and document 01's table, to outputs that may be too short or longer.
 fn ids(t: &mut Trial, fed: &Fed) {
     let n = t.rng.below(18);
-    for (kind, events) in [(Kind::Id, 1), (Kind::Ids, n)] {
+    for (kind, events) in [(Kind::Id, 1), (Kind::Ids, n), (Kind::DocumentTable, 0)] {
         let offered = noise(&mut t.rng, 192 * events);
         let call = t.with_output(Call { offered, ..fed.call(kind) });
         t.compare(call);
     }
 }
 
-/// Two units that are offered one set in different ways show the same; what one writes, a fresh one takes and writes.
+/// Two units that are lent one table and offered one set in different ways show the same; what one writes, a fresh one
+/// takes and writes.
 fn twins(t: &mut Trial) {
     let set = a_set(t, 256);
-    let (mut first, mut second) = (t.start(&set[0]), t.start(&set[0]));
+    let table = tables::any(&mut t.rng);
+    let (mut first, mut second) = (t.start_with(&set[0], table.clone()), t.start_with(&set[0], table));
     let (one, other) = (arrival(t, &set), arrival(t, &set));
     t.feed_bundles(&mut first, &one, 256);
     if set.len() < 32 {
@@ -228,7 +243,7 @@ fn both(t: &mut Trial, first: &Fed, second: &Fed, call: impl Fn(&Fed) -> Call) -
 fn round_trip(t: &mut Trial, creator: &Ev, fed: &Fed) {
     let len = 192 * fed.count + 12;
     let written = t.compare(Call { out: vec![0; len], ..fed.call(Kind::WriteOut) }).out;
-    let mut fresh = t.start(creator);
+    let mut fresh = t.start_with(creator, fed.table.clone());
     let taken = t.offer_bundle(&mut fresh, written.clone());
     t.equal("figures of a written bundle", &taken.values, &vec![fed.count as u64 - 1, 1, 0]);
     t.second = true;

@@ -1,18 +1,18 @@
 //! What a run of the comparison has seen, so that a run that compares little shows.
 
-use crate::cases::{Answer, Kind, KINDS};
+use crate::cases::{with_table, Answer, Call, Kind, KINDS};
+use crate::reference::{CORD_BYTES, TABLE};
 
-/// Numbers of answers: 0 good, 1 to 10 refusals.
-const NUMBERS: usize = 11;
-/// The refusals that must come up.
-const EXPECTED: std::ops::RangeInclusive<usize> = 1..=10;
+/// Numbers of answers: 0 good, the others refusals. 11 is struck.
+const NUMBERS: [usize; 12] = [0, 1, 2, 3, 4, 5, 6, 7, 8, 9, 10, 12];
+const BAD_TABLE: usize = 12;
 /// The bytes of the small bundle that is damaged byte by byte.
 pub const BUNDLE: usize = 5 + 3 * 192 + 12;
 
 pub struct Seen {
     pub calls: usize,
     pub cases: usize,
-    answers: [[usize; NUMBERS]; KINDS.len()],
+    answers: [[usize; BAD_TABLE + 1]; KINDS.len()],
     verdicts: [usize; 4],
     /// The order's rows by verdict.
     rows: [usize; 4],
@@ -21,10 +21,13 @@ pub struct Seen {
     /// Links standing, links ended, joins run.
     links: [u64; 3],
     repeats: usize,
+    /// Good answers by a table that is not document 01's.
+    other_tables: usize,
     pub twins: usize,
     pub round_trips: usize,
     event_bytes: [bool; 192],
     bundle_bytes: [bool; BUNDLE],
+    table_bytes: [bool; TABLE],
 }
 
 impl Seen {
@@ -32,24 +35,28 @@ impl Seen {
         Seen {
             calls: 0,
             cases: 0,
-            answers: [[0; NUMBERS]; KINDS.len()],
+            answers: [[0; BAD_TABLE + 1]; KINDS.len()],
             verdicts: [0; 4],
             rows: [0; 4],
             highest: 0,
             links: [0; 3],
             repeats: 0,
+            other_tables: 0,
             twins: 0,
             round_trips: 0,
             event_bytes: [false; 192],
             bundle_bytes: [false; BUNDLE],
+            table_bytes: [false; TABLE],
         }
     }
 
     /// One call, by what the reference answered.
-    pub fn call(&mut self, kind: Kind, a: &Answer) {
+    pub fn call(&mut self, call: &Call, a: &Answer) {
         self.calls += 1;
-        self.answers[kind as usize][a.number as usize] += 1;
-        match kind {
+        self.answers[call.kind as usize][a.number as usize] += 1;
+        let other = with_table().contains(&call.kind) && call.table != CORD_BYTES;
+        self.other_tables += usize::from(a.number == 0 && other);
+        match call.kind {
             _ if a.number > 0 => {}
             Kind::Verdict => self.verdicts[a.values[0] as usize] += 1,
             Kind::Take | Kind::TakeCounted => self.repeats += a.values[0] as usize,
@@ -72,6 +79,10 @@ impl Seen {
         self.bundle_bytes[at] = true;
     }
 
+    pub fn table_byte(&mut self, at: usize) {
+        self.table_bytes[at] = true;
+    }
+
     fn of_number(&self, number: usize) -> usize {
         self.answers.iter().map(|a| a[number]).sum()
     }
@@ -84,8 +95,11 @@ impl Seen {
                 all.push(what);
             }
         };
-        for n in EXPECTED {
-            ask(self.of_number(n) > 0, format!("no refusal {n}"));
+        for n in NUMBERS {
+            ask(self.of_number(n) > 0, format!("no answer {n}"));
+        }
+        for kind in with_table() {
+            ask(self.answers[*kind as usize][BAD_TABLE] > 0, format!("no {kind:?} refused by {BAD_TABLE}"));
         }
         for (v, n) in self.verdicts.iter().enumerate() {
             ask(*n > 0, format!("no verdict {v}"));
@@ -95,25 +109,28 @@ impl Seen {
         }
         ask(self.highest == 255, format!("no event of height 255; the greatest is {}", self.highest));
         ask(self.repeats > 0, "no repeat".into());
+        ask(self.other_tables > 0, "no good answer by another table than document 01's".into());
         ask(self.twins > 0, "no two units compared".into());
         ask(self.round_trips > 0, "no written bundle taken".into());
         ask(self.event_bytes.iter().all(|b| *b), "a byte of an event not damaged".into());
         ask(self.bundle_bytes.iter().all(|b| *b), "a byte of a bundle not damaged".into());
+        ask(self.table_bytes.iter().all(|b| *b), "a byte of a table not damaged".into());
         all
     }
 
     pub fn print(&self) {
         println!(
-            "{} calls in {} cases. Calls of each kind by answer (0 good, 1 to 10 refused):",
+            "{} calls in {} cases. Calls of each kind by answer (0 good, the others refused):",
             self.calls, self.cases
         );
-        let heads: String = (0..NUMBERS).map(|n| format!("{n:>7}")).collect();
+        let heads: String = NUMBERS.iter().map(|n| format!("{n:>7}")).collect();
         println!("{:<18}{heads}", "");
         for kind in KINDS {
-            let row: String = self.answers[kind as usize].iter().map(|n| format!("{n:>7}")).collect();
+            let answers = self.answers[kind as usize];
+            let row: String = NUMBERS.iter().map(|n| format!("{:>7}", answers[*n])).collect();
             println!("{:<18}{row}", format!("{kind:?}"));
         }
-        let all: String = (0..NUMBERS).map(|n| format!("{:>7}", self.of_number(n))).collect();
+        let all: String = NUMBERS.iter().map(|n| format!("{:>7}", self.of_number(*n))).collect();
         println!("{:<18}{all}", "all");
         let [w, u, v, e] = self.verdicts;
         println!("verdicts asked: waiting {w}, unsound {u}, void {v}, effective {e}; repeats {}", self.repeats);
@@ -124,9 +141,11 @@ impl Seen {
         );
         let bytes = |all: &[bool]| format!("{} of {}", all.iter().filter(|b| **b).count(), all.len());
         println!(
-            "bytes damaged: event {}, bundle {}; pairs of units {}, round trips {}",
+            "bytes damaged: event {}, bundle {}, table {}; good by another table {}; pairs of units {}, round trips {}",
             bytes(&self.event_bytes),
             bytes(&self.bundle_bytes),
+            bytes(&self.table_bytes),
+            self.other_tables,
             self.twins,
             self.round_trips
         );

@@ -4,7 +4,7 @@
 //! return address, and nothing of the caller.
 
 use crate::reference::make::{bundle, id, Ev};
-use crate::reference::{EVENT, STORE};
+use crate::reference::{CORD_BYTES, EVENT, STORE};
 use crate::{shapes, unit};
 
 /// What a call may use.
@@ -15,7 +15,7 @@ const THREAD: usize = 4 << 20;
 const HEADER: &str = include_str!("../../include/pelchunda.h");
 
 // Fills, calls and searches, all with the stack pointer where the call finds it: with functions of Rust their frames
-// would hide some bytes. It is lent the function, 8 words of arguments, the pattern, and the place for the depth.
+// would hide some bytes. It is lent the function, 10 words of arguments, the pattern, and the place for the depth.
 core::arch::global_asm!(
     ".globl call_and_measure",
     "call_and_measure:",
@@ -28,7 +28,9 @@ core::arch::global_asm!(
     "mov %rsi, %r14",
     "mov %edx, %ebx",
     "mov %rcx, %r12",
-    // The seventh and the eighth argument; the stack pointer is then a multiple of 16.
+    // The seventh argument to the tenth; the stack pointer is then a multiple of 16.
+    "push 72(%r14)",
+    "push 64(%r14)",
     "push 56(%r14)",
     "push 48(%r14)",
     "mov %ebx, %eax",
@@ -51,7 +53,7 @@ core::arch::global_asm!(
     "inc %rcx",
     "mov %rcx, (%r12)",
     "mov %edx, %eax",
-    "add $16, %rsp",
+    "add $32, %rsp",
     "pop %r15",
     "pop %r14",
     "pop %r13",
@@ -63,13 +65,13 @@ core::arch::global_asm!(
 );
 
 extern "C" {
-    fn call_and_measure(function: *const (), words: *const [usize; 8], pattern: u8, depth: *mut usize) -> u8;
+    fn call_and_measure(function: *const (), words: *const [usize; 10], pattern: u8, depth: *mut usize) -> u8;
 }
 
 /// The depth of a call that answers 0, or the version. The count it is lent is set first, since the call before may have
 /// altered it.
 fn depth(name: &str, count: *mut usize, before: usize, list: &[usize]) -> usize {
-    let mut words = [0; 8];
+    let mut words = [0; 10];
     let answer = if name == "version" { unit::version() as u8 } else { 0 };
     words[..list.len()].copy_from_slice(list);
     let depths = [0xa5, 0x5a].map(|pattern| {
@@ -95,26 +97,28 @@ fn lent(bytes: &mut [u8]) -> [usize; 2] {
 /// into the store what stands there already.
 fn depths(events: &[Ev], held: usize) -> Vec<(&'static str, usize)> {
     let (mut store, mut out, mut all) = (events.concat(), vec![0; STORE + 12], bundle(events));
-    let (mut create, mut last, mut asked) = (events[0], events[255], id(&events[200]));
+    let (mut create, mut last, mut asked, mut table) = (events[0], events[255], id(&events[200]), CORD_BYTES);
     let (mut count, mut numbers, mut tally) = (0, [0usize; 3], [0u32; 3]);
     let ([s, s_len], [o, o_len], [b, b_len]) = (lent(&mut store), lent(&mut out), lent(&mut all));
     let ([c, c_len], [e, e_len], [i, i_len]) = (lent(&mut create), lent(&mut last), lent(&mut asked));
+    let [k, k_len] = lent(&mut table);
     let (n, r, t) = (&raw mut count, numbers.as_mut_ptr() as usize, tally.as_mut_ptr() as usize);
     let count_at = n as usize;
     // The name, the count before the call where the call may alter it, and the arguments in order.
-    let calls: [(&str, usize, &[usize]); 15] = [
+    let calls: [(&str, usize, &[usize]); 16] = [
         ("version", 0, &[]),
-        ("start", 0, &[s, s_len, count_at, c, c_len]),
-        ("take", 255, &[s, s_len, count_at, e, e_len, r]),
-        ("take_counted", 255, &[s, s_len, count_at, e, e_len, r, t]),
-        ("take_bundle", 1, &[s, s_len, count_at, b, b_len, r]),
-        ("take_bundle_counted", 1, &[s, s_len, count_at, b, b_len, r, t]),
-        ("look_up", 0, &[s, s_len, held, i, i_len, r]),
-        ("order", 0, &[s, s_len, held, o, o_len, r]),
-        ("verdict", 0, &[s, s_len, held, i, i_len, r]),
-        ("map", 0, &[s, s_len, held, o, o_len, r, r + 8, r + 16]),
-        ("write_out", 0, &[s, s_len, held, o, o_len, r]),
-        ("text", 0, &[s, s_len, held, o, o_len, r]),
+        ("start", 0, &[s, s_len, count_at, k, k_len, c, c_len]),
+        ("take", 255, &[s, s_len, count_at, k, k_len, e, e_len, r]),
+        ("take_counted", 255, &[s, s_len, count_at, k, k_len, e, e_len, r, t]),
+        ("take_bundle", 1, &[s, s_len, count_at, k, k_len, b, b_len, r]),
+        ("take_bundle_counted", 1, &[s, s_len, count_at, k, k_len, b, b_len, r, t]),
+        ("look_up", 0, &[s, s_len, held, k, k_len, i, i_len, r]),
+        ("order", 0, &[s, s_len, held, k, k_len, o, o_len, r]),
+        ("verdict", 0, &[s, s_len, held, k, k_len, i, i_len, r]),
+        ("map", 0, &[s, s_len, held, k, k_len, o, o_len, r, r + 8, r + 16]),
+        ("write_out", 0, &[s, s_len, held, k, k_len, o, o_len, r]),
+        ("text", 0, &[s, s_len, held, k, k_len, o, o_len, r]),
+        ("document_table", 0, &[o, o_len]),
         ("first_event", 0, &[b, b_len, r]),
         ("id", 0, &[e, e_len, o, o_len]),
         ("ids", 0, &[s, held * EVENT, o, o_len]),

@@ -2,7 +2,7 @@
 //! what else the machine does hits both alike.
 
 use crate::reference::make::{bundle, id, join, Ev};
-use crate::reference::{self, Hasher, Id, Portable, Tally, STORE};
+use crate::reference::{self, Hasher, Id, Portable, Tally, CORD_BYTES, STORE};
 use crate::{shapes, unit};
 use std::hint::black_box;
 use std::time::Instant;
@@ -121,6 +121,12 @@ fn filled(events: &[Ev]) -> Vec<Ev> {
     full
 }
 
+/// Document 01's table, as every call is lent it.
+#[inline(always)]
+fn table() -> &'static [u8] {
+    black_box(&CORD_BYTES)
+}
+
 fn time_id(event: &Ev) -> Pair {
     let mut out = [0u8; 32];
     pair(
@@ -157,10 +163,10 @@ fn time_take(l: &Lent, n: usize, event: &Ev, repetitions: usize, inner: usize) -
     pair(
         repetitions,
         inner,
-        || assert_eq!(unit::take(black_box(&mut s), &mut { n }, black_box(event)).0, expected),
+        || assert_eq!(unit::take(black_box(&mut s), &mut { n }, table(), black_box(event)).0, expected),
         || {
-            let answer = black_box(reference::take(black_box(&mut t), &mut { n }, black_box(event), &mut tally));
-            assert_eq!(answer.err().unwrap_or(0), expected);
+            let answer = reference::take(table(), black_box(&mut t), &mut { n }, black_box(event), &mut tally);
+            assert_eq!(black_box(answer).err().unwrap_or(0), expected);
         },
     )
 }
@@ -172,9 +178,10 @@ fn time_bundle(l: &Lent) -> Pair {
     pair(
         REPETITIONS,
         1,
-        || assert_eq!(unit::take_bundle(black_box(&mut s), &mut 1, black_box(&l.bundle)).0, 0),
+        || assert_eq!(unit::take_bundle(black_box(&mut s), &mut 1, table(), black_box(&l.bundle)).0, 0),
         || {
-            black_box(reference::take_bundle(black_box(&mut t), &mut 1, black_box(&l.bundle), &mut tally)).unwrap();
+            let answer = reference::take_bundle(table(), black_box(&mut t), &mut 1, black_box(&l.bundle), &mut tally);
+            black_box(answer).unwrap();
         },
     )
 }
@@ -184,9 +191,9 @@ fn time_look_up(l: &Lent) -> Pair {
     pair(
         REPETITIONS,
         1,
-        || assert_eq!(unit::look_up(black_box(&l.store), n, black_box(&l.asked)).0, 0),
+        || assert_eq!(unit::look_up(black_box(&l.store), n, table(), black_box(&l.asked)).0, 0),
         || {
-            black_box(reference::lookup(black_box(&l.store), n, black_box(&l.asked))).unwrap();
+            black_box(reference::lookup(table(), black_box(&l.store), n, black_box(&l.asked))).unwrap();
         },
     )
 }
@@ -197,9 +204,9 @@ fn time_order(l: &Lent) -> Pair {
     pair(
         REPETITIONS,
         1,
-        || assert_eq!(unit::order(black_box(&l.store), n, black_box(&mut o)).0, 0),
+        || assert_eq!(unit::order(black_box(&l.store), n, table(), black_box(&mut o)).0, 0),
         || {
-            black_box(reference::order(black_box(&l.store), n, black_box(&mut p))).unwrap();
+            black_box(reference::order(table(), black_box(&l.store), n, black_box(&mut p))).unwrap();
         },
     )
 }
@@ -209,9 +216,9 @@ fn time_verdict(l: &Lent, repetitions: usize, inner: usize) -> Pair {
     pair(
         repetitions,
         inner,
-        || assert_eq!(unit::verdict(black_box(&l.store), n, black_box(&l.asked)).0, 0),
+        || assert_eq!(unit::verdict(black_box(&l.store), n, table(), black_box(&l.asked)).0, 0),
         || {
-            black_box(reference::verdict(black_box(&l.store), n, black_box(&l.asked))).unwrap();
+            black_box(reference::verdict(table(), black_box(&l.store), n, black_box(&l.asked))).unwrap();
         },
     )
 }
@@ -222,9 +229,9 @@ fn time_map(l: &Lent, repetitions: usize, inner: usize) -> Pair {
     pair(
         repetitions,
         inner,
-        || assert_eq!(unit::map(black_box(&l.store), n, black_box(&mut o)).0, 0),
+        || assert_eq!(unit::map(black_box(&l.store), n, table(), black_box(&mut o)).0, 0),
         || {
-            black_box(reference::map(black_box(&l.store), n, black_box(&mut p))).unwrap();
+            black_box(reference::map(table(), black_box(&l.store), n, black_box(&mut p))).unwrap();
         },
     )
 }
@@ -235,11 +242,35 @@ fn time_write_out(l: &Lent) -> Pair {
     pair(
         REPETITIONS,
         1,
-        || assert_eq!(unit::write_out(black_box(&l.store), n, black_box(&mut o)).0, 0),
+        || assert_eq!(unit::write_out(black_box(&l.store), n, table(), black_box(&mut o)).0, 0),
         || {
-            black_box(reference::write_out(black_box(&l.store), n, black_box(&mut p))).unwrap();
+            black_box(reference::write_out(table(), black_box(&l.store), n, black_box(&mut p))).unwrap();
         },
     )
+}
+
+/// A look-up that is refused by 2 for its count: behind the table's test nothing else is done. With one byte of the table
+/// left out it is refused by 12, and no entry is tested.
+fn time_refused(l: &Lent, table: &[u8], expected: u8) -> Pair {
+    pair(
+        REPETITIONS,
+        100,
+        || assert_eq!(unit::look_up(black_box(&l.store), 0, black_box(table), black_box(&l.asked)).0, expected),
+        || {
+            let answer = reference::lookup(black_box(table), black_box(&l.store), 0, black_box(&l.asked));
+            assert_eq!(black_box(answer), Err(expected));
+        },
+    )
+}
+
+/// What the table's test takes, which every call makes.
+fn table_test(events: &[Ev]) {
+    println!("\nThe test of the table: medians in ns of a look-up that ends right behind it, and of one that ends at its length.");
+    let l = lend(events);
+    for (what, table, expected) in [("count 0", &CORD_BYTES[..], 2), ("511 bytes", &CORD_BYTES[..511], 12)] {
+        let p = time_refused(&l, table, expected);
+        println!("{what:<9} unit {:>5.0}  reference {:>5.0}", p.unit.median, p.reference.median);
+    }
 }
 
 /// The worst ratios of a call, and the set of the worst ratio of neighbours.
@@ -316,5 +347,6 @@ pub fn run() -> bool {
     }
     let met = say_budgets(&worst);
     growth();
+    table_test(&sets[0].1);
     met
 }

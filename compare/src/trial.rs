@@ -71,7 +71,7 @@ impl<'a> Trial<'a> {
     pub fn compare(&mut self, call: Call) -> Answer {
         self.call += 1;
         let (u, r) = (self.asked(&call), by_reference(&call));
-        self.seen.call(call.kind, &r);
+        self.seen.call(&call, &r);
         if self.voice == Voice::Full {
             println!(
                 "call {}: {:?} unit {} {:?} reference {} {:?}",
@@ -112,7 +112,7 @@ impl<'a> Trial<'a> {
             }
         }
         if u.strayed {
-            println!("  the unit wrote outside what it was lent, or into what it was offered");
+            println!("  the unit wrote outside what it was lent, into the table or into what it was offered");
         }
         println!("  again: replay {} {}", self.seed, self.case);
         match self.write_inputs(call) {
@@ -128,10 +128,11 @@ impl<'a> Trial<'a> {
         std::fs::create_dir_all(&folder)?;
         let path = folder.join(format!("{}-{}-{}.txt", self.seed, self.case, self.call));
         let text = format!(
-            "call {:?}\ncount {}\ntally {:?}\noffered {}\noutput {}\nstore {}\n",
+            "call {:?}\ncount {}\ntally {:?}\ntable {}\noffered {}\noutput {}\nstore {}\n",
             call.kind,
             call.count,
             call.tally,
+            hex(&call.table),
             hex(&call.offered),
             hex(&call.out),
             hex(&call.store)

@@ -10,41 +10,51 @@ pub const UNSET_FIGURES: [u32; 3] = [0xa5a5_a5a1, 0xa5a5_a5a2, 0xa5a5_a5a3];
 #[rustfmt::skip]
 extern "C" {
     fn pelchunda_version() -> u32;
-    fn pelchunda_start(store: *mut u8, store_len: usize, count: *mut usize, event: *const u8, event_len: usize) -> u8;
+    fn pelchunda_start(
+        store: *mut u8, store_len: usize, count: *mut usize, table: *const u8, table_len: usize, event: *const u8,
+        event_len: usize,
+    ) -> u8;
     fn pelchunda_take(
-        store: *mut u8, store_len: usize, count: *mut usize, event: *const u8, event_len: usize, repeat: *mut u8,
+        store: *mut u8, store_len: usize, count: *mut usize, table: *const u8, table_len: usize, event: *const u8,
+        event_len: usize, repeat: *mut u8,
     ) -> u8;
     fn pelchunda_take_counted(
-        store: *mut u8, store_len: usize, count: *mut usize, event: *const u8, event_len: usize, repeat: *mut u8,
-        tally: *mut [u32; 3],
+        store: *mut u8, store_len: usize, count: *mut usize, table: *const u8, table_len: usize, event: *const u8,
+        event_len: usize, repeat: *mut u8, tally: *mut [u32; 3],
     ) -> u8;
     fn pelchunda_take_bundle(
-        store: *mut u8, store_len: usize, count: *mut usize, bundle: *const u8, bundle_len: usize,
-        figures: *mut [u32; 3],
+        store: *mut u8, store_len: usize, count: *mut usize, table: *const u8, table_len: usize, bundle: *const u8,
+        bundle_len: usize, figures: *mut [u32; 3],
     ) -> u8;
     fn pelchunda_take_bundle_counted(
-        store: *mut u8, store_len: usize, count: *mut usize, bundle: *const u8, bundle_len: usize,
-        figures: *mut [u32; 3], tally: *mut [u32; 3],
+        store: *mut u8, store_len: usize, count: *mut usize, table: *const u8, table_len: usize, bundle: *const u8,
+        bundle_len: usize, figures: *mut [u32; 3], tally: *mut [u32; 3],
     ) -> u8;
     fn pelchunda_look_up(
-        store: *const u8, store_len: usize, count: usize, id: *const u8, id_len: usize, place: *mut u16,
+        store: *const u8, store_len: usize, count: usize, table: *const u8, table_len: usize, id: *const u8,
+        id_len: usize, place: *mut u16,
     ) -> u8;
     fn pelchunda_order(
-        store: *const u8, store_len: usize, count: usize, out: *mut u8, out_len: usize, rows: *mut usize,
+        store: *const u8, store_len: usize, count: usize, table: *const u8, table_len: usize, out: *mut u8,
+        out_len: usize, rows: *mut usize,
     ) -> u8;
     fn pelchunda_verdict(
-        store: *const u8, store_len: usize, count: usize, id: *const u8, id_len: usize, verdict: *mut u8,
+        store: *const u8, store_len: usize, count: usize, table: *const u8, table_len: usize, id: *const u8,
+        id_len: usize, verdict: *mut u8,
     ) -> u8;
     fn pelchunda_map(
-        store: *const u8, store_len: usize, count: usize, out: *mut u8, out_len: usize, rows: *mut usize,
-        ended: *mut usize, joins: *mut usize,
+        store: *const u8, store_len: usize, count: usize, table: *const u8, table_len: usize, out: *mut u8,
+        out_len: usize, rows: *mut usize, ended: *mut usize, joins: *mut usize,
     ) -> u8;
     fn pelchunda_write_out(
-        store: *const u8, store_len: usize, count: usize, out: *mut u8, out_len: usize, bytes: *mut usize,
+        store: *const u8, store_len: usize, count: usize, table: *const u8, table_len: usize, out: *mut u8,
+        out_len: usize, bytes: *mut usize,
     ) -> u8;
     fn pelchunda_text(
-        store: *const u8, store_len: usize, count: usize, out: *mut u8, out_len: usize, bytes: *mut usize,
+        store: *const u8, store_len: usize, count: usize, table: *const u8, table_len: usize, out: *mut u8,
+        out_len: usize, bytes: *mut usize,
     ) -> u8;
+    fn pelchunda_document_table(out: *mut u8, out_len: usize) -> u8;
     fn pelchunda_first_event(bundle: *const u8, bundle_len: usize, offset: *mut usize) -> u8;
     fn pelchunda_id(event: *const u8, event_len: usize, id: *mut u8, id_len: usize) -> u8;
     fn pelchunda_ids(events: *const u8, events_len: usize, ids: *mut u8, ids_len: usize) -> u8;
@@ -65,6 +75,7 @@ pub fn address(name: &str) -> *const () {
         "map" => pelchunda_map as *const (),
         "write_out" => pelchunda_write_out as *const (),
         "text" => pelchunda_text as *const (),
+        "document_table" => pelchunda_document_table as *const (),
         "first_event" => pelchunda_first_event as *const (),
         "id" => pelchunda_id as *const (),
         "ids" => pelchunda_ids as *const (),
@@ -100,87 +111,120 @@ pub fn version() -> u32 {
 }
 
 /// The number.
-pub fn start(store: &mut [u8], count: &mut usize, event: &[u8]) -> u8 {
-    unsafe { pelchunda_start(lent_mut(store), store.len(), count, lent(event), event.len()) }
+pub fn start(store: &mut [u8], count: &mut usize, table: &[u8], event: &[u8]) -> u8 {
+    let (s, s_len) = (lent_mut(store), store.len());
+    unsafe { pelchunda_start(s, s_len, count, lent(table), table.len(), lent(event), event.len()) }
 }
 
 /// The number, then 0 for stored or 1 for repeat.
-pub fn take(store: &mut [u8], count: &mut usize, event: &[u8]) -> (u8, u8) {
+pub fn take(store: &mut [u8], count: &mut usize, table: &[u8], event: &[u8]) -> (u8, u8) {
     let mut repeat = UNSET_BYTE;
-    let n = unsafe { pelchunda_take(lent_mut(store), store.len(), count, lent(event), event.len(), &mut repeat) };
+    let n = unsafe {
+        let (s, s_len) = (lent_mut(store), store.len());
+        pelchunda_take(s, s_len, count, lent(table), table.len(), lent(event), event.len(), &mut repeat)
+    };
     (n, repeat)
 }
 
 /// The same, with a tally.
-pub fn take_counted(store: &mut [u8], count: &mut usize, event: &[u8], tally: &mut [u32; 3]) -> (u8, u8) {
+pub fn take_counted(store: &mut [u8], count: &mut usize, table: &[u8], event: &[u8], tally: &mut [u32; 3]) -> (u8, u8) {
     let mut repeat = UNSET_BYTE;
     let n = unsafe {
-        pelchunda_take_counted(lent_mut(store), store.len(), count, lent(event), event.len(), &mut repeat, tally)
+        let (s, s_len) = (lent_mut(store), store.len());
+        pelchunda_take_counted(s, s_len, count, lent(table), table.len(), lent(event), event.len(), &mut repeat, tally)
     };
     (n, repeat)
 }
 
 /// The number, then new, repeats, refused.
-pub fn take_bundle(store: &mut [u8], count: &mut usize, bundle: &[u8]) -> (u8, [u32; 3]) {
+pub fn take_bundle(store: &mut [u8], count: &mut usize, table: &[u8], bundle: &[u8]) -> (u8, [u32; 3]) {
     let mut figures = UNSET_FIGURES;
-    let n =
-        unsafe { pelchunda_take_bundle(lent_mut(store), store.len(), count, lent(bundle), bundle.len(), &mut figures) };
+    let n = unsafe {
+        let (s, s_len) = (lent_mut(store), store.len());
+        pelchunda_take_bundle(s, s_len, count, lent(table), table.len(), lent(bundle), bundle.len(), &mut figures)
+    };
     (n, figures)
 }
 
 /// The same, with a tally.
-pub fn take_bundle_counted(store: &mut [u8], count: &mut usize, bundle: &[u8], tally: &mut [u32; 3]) -> (u8, [u32; 3]) {
+pub fn take_bundle_counted(
+    store: &mut [u8],
+    count: &mut usize,
+    table: &[u8],
+    bundle: &[u8],
+    tally: &mut [u32; 3],
+) -> (u8, [u32; 3]) {
     let mut figures = UNSET_FIGURES;
     let n = unsafe {
-        let (at, len) = (lent_mut(store), store.len());
-        pelchunda_take_bundle_counted(at, len, count, lent(bundle), bundle.len(), &mut figures, tally)
+        let (s, s_len, b, b_len) = (lent_mut(store), store.len(), lent(bundle), bundle.len());
+        pelchunda_take_bundle_counted(s, s_len, count, lent(table), table.len(), b, b_len, &mut figures, tally)
     };
     (n, figures)
 }
 
 /// The number, then the place.
-pub fn look_up(store: &[u8], count: usize, id: &[u8]) -> (u8, u16) {
+pub fn look_up(store: &[u8], count: usize, table: &[u8], id: &[u8]) -> (u8, u16) {
     let mut place = UNSET_PLACE;
-    let n = unsafe { pelchunda_look_up(lent(store), store.len(), count, lent(id), id.len(), &mut place) };
+    let n = unsafe {
+        let (s, s_len) = (lent(store), store.len());
+        pelchunda_look_up(s, s_len, count, lent(table), table.len(), lent(id), id.len(), &mut place)
+    };
     (n, place)
 }
 
 /// The number, then the rows written.
-pub fn order(store: &[u8], count: usize, out: &mut [u8]) -> (u8, usize) {
+pub fn order(store: &[u8], count: usize, table: &[u8], out: &mut [u8]) -> (u8, usize) {
     let mut rows = UNSET_SIZE;
-    let n = unsafe { pelchunda_order(lent(store), store.len(), count, lent_mut(out), out.len(), &mut rows) };
+    let n = unsafe {
+        let (s, s_len) = (lent(store), store.len());
+        pelchunda_order(s, s_len, count, lent(table), table.len(), lent_mut(out), out.len(), &mut rows)
+    };
     (n, rows)
 }
 
 /// The number, then the verdict.
-pub fn verdict(store: &[u8], count: usize, id: &[u8]) -> (u8, u8) {
+pub fn verdict(store: &[u8], count: usize, table: &[u8], id: &[u8]) -> (u8, u8) {
     let mut verdict = UNSET_BYTE;
-    let n = unsafe { pelchunda_verdict(lent(store), store.len(), count, lent(id), id.len(), &mut verdict) };
+    let n = unsafe {
+        let (s, s_len) = (lent(store), store.len());
+        pelchunda_verdict(s, s_len, count, lent(table), table.len(), lent(id), id.len(), &mut verdict)
+    };
     (n, verdict)
 }
 
 /// The number, then the rows written, the links ended and the joins run.
-pub fn map(store: &[u8], count: usize, out: &mut [u8]) -> (u8, [usize; 3]) {
+pub fn map(store: &[u8], count: usize, table: &[u8], out: &mut [u8]) -> (u8, [usize; 3]) {
     let [mut rows, mut ended, mut joins] = [UNSET_SIZE, UNSET_SIZE + 1, UNSET_SIZE + 2];
     let n = unsafe {
-        let (at, len) = (lent_mut(out), out.len());
-        pelchunda_map(lent(store), store.len(), count, at, len, &mut rows, &mut ended, &mut joins)
+        let (s, s_len, o, o_len) = (lent(store), store.len(), lent_mut(out), out.len());
+        pelchunda_map(s, s_len, count, lent(table), table.len(), o, o_len, &mut rows, &mut ended, &mut joins)
     };
     (n, [rows, ended, joins])
 }
 
 /// The number, then the bytes written.
-pub fn write_out(store: &[u8], count: usize, out: &mut [u8]) -> (u8, usize) {
+pub fn write_out(store: &[u8], count: usize, table: &[u8], out: &mut [u8]) -> (u8, usize) {
     let mut bytes = UNSET_SIZE;
-    let n = unsafe { pelchunda_write_out(lent(store), store.len(), count, lent_mut(out), out.len(), &mut bytes) };
+    let n = unsafe {
+        let (s, s_len) = (lent(store), store.len());
+        pelchunda_write_out(s, s_len, count, lent(table), table.len(), lent_mut(out), out.len(), &mut bytes)
+    };
     (n, bytes)
 }
 
 /// The number, then the bytes written.
-pub fn text(store: &[u8], count: usize, out: &mut [u8]) -> (u8, usize) {
+pub fn text(store: &[u8], count: usize, table: &[u8], out: &mut [u8]) -> (u8, usize) {
     let mut bytes = UNSET_SIZE;
-    let n = unsafe { pelchunda_text(lent(store), store.len(), count, lent_mut(out), out.len(), &mut bytes) };
+    let n = unsafe {
+        let (s, s_len) = (lent(store), store.len());
+        pelchunda_text(s, s_len, count, lent(table), table.len(), lent_mut(out), out.len(), &mut bytes)
+    };
     (n, bytes)
+}
+
+/// The number; document 01's cord table goes to `out`.
+pub fn document_table(out: &mut [u8]) -> u8 {
+    unsafe { pelchunda_document_table(lent_mut(out), out.len()) }
 }
 
 /// The number, then where the event starts.
