@@ -1,7 +1,7 @@
 #!/bin/sh
 # Makes the delivery of the commit that is checked out, in target/delivery/pelchunda-VERSION: library, header, pkg-config file,
 # documents, contracts, sample card, acceptance test and manifest. All of it comes from a clean clone of the commit, in which the gate
-# (.ci/run, about 35 minutes) has passed; the gate's log is kept for the commit, so that a second run does not repeat it. Twice from
+# (.ci/run, 35 to 70 minutes) has passed; the gate's log is kept for the commit, so that a second run does not repeat it. Twice from
 # one commit gives the same bytes. Then the delivery is tried by itself.
 # usage: sh tools/deliver.sh [PREFIX]: with a prefix, such as /usr/local, it is installed there too.
 # Needs git, rt, python3, gcc, binutils and pkg-config.
