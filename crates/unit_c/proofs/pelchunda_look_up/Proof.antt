@@ -24,7 +24,7 @@ returns c =
 returns-2 : tie.Need-returns-2
 returns-2 c =
     let answer = sym (c .before .before .before .before .find .ensures) ∙ ap answerOfFind (c .before .before .refusal .given .1) in
-    rw (answer, c .number .ensures) refl
+    rw answer (cc (c .number .ensures))
 
 pub pelchunda-look-up-spec : {M : Type 1} → statement M
 pelchunda-look-up-spec =
