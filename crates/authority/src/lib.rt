@@ -1,5 +1,8 @@
 // Who may do what: the ancestor that each event presents and what it gives, the target of each revoke, lines, and which places are
 // sound.
+
+#![tactic(auto)]
+
 ghost use Rattle.std.specs.Prelude.{◌≡◌, ℕ, ◌<◌, eqb, get_or};
 ghost use mathlib.Core.List.{Memᴰ};
 ghost use Rattle.lists.specs.Tests.{any_of};

@@ -1,6 +1,9 @@
 // Claims about whole lists of calls, and those of document 02's requests, over the definitions that the code's contracts name. Each
 // function does nothing: its contract is the claim, so that the check lists it. The statements stand in specs/, their proofs in
 // proofs/. Assumes nothing.
+
+#![tactic(auto)]
+
 ghost use Rattle.std.specs.Prelude.{◌≡◌, true};
 ghost use Rattle.lists.specs.Tests.{all_of};
 ghost use Rattle.model.specs.Examples.{checks};

@@ -1,4 +1,7 @@
 // Runs examples 10 and 11 of document 01, and writes what the unit answers.
+
+#![tactic(auto)]
+
 use libc::STDOUT_FILENO;
 use takes::{BundleAnswer, TakeAnswer, Taken, Tally};
 

@@ -1,5 +1,8 @@
 // Makes every call of the unit on the room of document 01's examples 5 and 6, and writes what it answers. It reads nothing and takes
 // few steps, so that `rt try` runs it on the interpreter too.
+
+#![tactic(auto)]
+
 use libc::STDOUT_FILENO;
 use unit::{BundleAnswer, CountAnswer, MapAnswer, Tally, VerdictAnswer};
 

@@ -44,7 +44,7 @@ fn state_of(st: &[u32; 32], l: usize) -> State
 // Writes the state of lane l.
 fn put_state(st: &mut [u32; 32], l: usize, s: State)
     requires { (l < 4) × (length st.old ≡ 32) }
-    ensures st_len { (length st.new ≡ 32) × (state_at l st.new ≡ s) }
+    ensures lane { (length st.new ≡ 32) × (state_at l st.new ≡ s) }
     ensures other_states { OtherStates l st.old st.new }
 {
     st[l] = s.a;
@@ -60,7 +60,7 @@ fn put_state(st: &mut [u32; 32], l: usize, s: State)
 // In lane l, the word t + 16 of the schedule and the round t.
 fn round_and_word(s: State, w: &mut [u32; 256], k: &[u32; 256], t: usize, l: usize) -> State
     requires { (t < 48) × (l < 4) × (length w.old ≡ 256) × (FourTimes K k.now) }
-    ensures w_len { length w.new ≡ 256 }
+    ensures lengths { length w.new ≡ 256 }
     ensures stepped { Stepped l t w.old w.new s result }
 {
     let p = l + t * 4;
@@ -72,8 +72,8 @@ fn round_and_word(s: State, w: &mut [u32; 256], k: &[u32; 256], t: usize, l: usi
 // In lane l, the words t + 16 to t + 19 and the rounds t to t + 3.
 fn lane_rounds_and_words(st: &mut [u32; 32], w: &mut [u32; 256], k: &[u32; 256], t: usize, l: usize)
     requires { (t + 4 ≤ 48) × (l < 4) × (length st.old ≡ 32) × (length w.old ≡ 256) × (FourTimes K k.now) }
-    ensures st_len { (length st.new ≡ 32) × (length w.new ≡ 256) }
-    ensures st_after { lane_at l w.new st.new ≡ steps t 4 (lane_at l w.old st.old) }
+    ensures lengths { (length st.new ≡ 32) × (length w.new ≡ 256) }
+    ensures lane { lane_at l w.new st.new ≡ steps t 4 (lane_at l w.old st.old) }
     ensures other_schedules { OtherSchedules l w.old w.new × OtherStates l st.old st.new }
 {
     let s = state_of(st, l);
@@ -87,7 +87,7 @@ fn lane_rounds_and_words(st: &mut [u32; 32], w: &mut [u32; 256], k: &[u32; 256],
 // In each lane, the words t + 16 to t + 19 and the rounds t to t + 3.
 fn lanes_rounds_and_words(st: &mut [u32; 32], w: &mut [u32; 256], k: &[u32; 256], t: usize)
     requires { (t + 4 ≤ 48) × (length st.old ≡ 32) × (length w.old ≡ 256) × (FourTimes K k.now) }
-    ensures st_len { (length st.new ≡ 32) × (length w.new ≡ 256) }
+    ensures lengths { (length st.new ≡ 32) × (length w.new ≡ 256) }
     ensures each_lane { EachLane (λ l. lane_at l w.new st.new ≡ steps t 4 (lane_at l w.old st.old)) }
 {
     let mut l = 0;
@@ -100,9 +100,9 @@ fn lanes_rounds_and_words(st: &mut [u32; 32], w: &mut [u32; 256], k: &[u32; 256]
 // In each lane, the first 48 rounds, which leave the whole schedule in w.
 fn first_rounds(st: &mut [u32; 32], w: &mut [u32; 256], k: &[u32; 256])
     requires { (length st.old ≡ 32) × (length w.old ≡ 256) × (FourTimes K k.now) }
-    ensures st_len { (length st.new ≡ 32) × (length w.new ≡ 256) }
-    ensures each_lane { EachLane (λ l. schedule_at l w.new ≡ extended 48 (block_at l w.old)) }
-    ensures each_lane_2 { EachLane (λ l. state_at l st.new ≡ rounds 48 (schedule_at l w.new) (state_at l st.old)) }
+    ensures lengths { (length st.new ≡ 32) × (length w.new ≡ 256) }
+    ensures schedules { EachLane (λ l. schedule_at l w.new ≡ extended 48 (block_at l w.old)) }
+    ensures states { EachLane (λ l. state_at l st.new ≡ rounds 48 (schedule_at l w.new) (state_at l st.old)) }
 {
     let mut t = 0;
     while t < 48 {
@@ -123,8 +123,8 @@ fn round_at(s: State, w: &[u32; 256], k: &[u32; 256], t: usize, l: usize) -> Sta
 // In lane l, the rounds t to t + 3.
 fn lane_rounds(st: &mut [u32; 32], w: &[u32; 256], k: &[u32; 256], t: usize, l: usize)
     requires { (t + 4 ≤ 64) × (l < 4) × (length st.old ≡ 32) × (FourTimes K k.now) }
-    ensures st_len { length st.new ≡ 32 }
-    ensures st_after { state_at l st.new ≡ rounds_from t 4 (schedule_at l w.now) (state_at l st.old) }
+    ensures lengths { length st.new ≡ 32 }
+    ensures lane { state_at l st.new ≡ rounds_from t 4 (schedule_at l w.now) (state_at l st.old) }
     ensures other_states { OtherStates l st.old st.new }
 {
     let s = state_of(st, l);
@@ -138,7 +138,7 @@ fn lane_rounds(st: &mut [u32; 32], w: &[u32; 256], k: &[u32; 256], t: usize, l: 
 // In each lane, the rounds t to t + 3.
 fn lanes_rounds(st: &mut [u32; 32], w: &[u32; 256], k: &[u32; 256], t: usize)
     requires { (t + 4 ≤ 64) × (length st.old ≡ 32) × (FourTimes K k.now) }
-    ensures st_len { length st.new ≡ 32 }
+    ensures lengths { length st.new ≡ 32 }
     ensures each_lane { EachLane (λ l. state_at l st.new ≡ rounds_from t 4 (schedule_at l w.now) (state_at l st.old)) }
 {
     let mut l = 0;
@@ -151,7 +151,7 @@ fn lanes_rounds(st: &mut [u32; 32], w: &[u32; 256], k: &[u32; 256], t: usize)
 // In each lane, the last 16 rounds.
 fn last_rounds(st: &mut [u32; 32], w: &[u32; 256], k: &[u32; 256])
     requires { (length st.old ≡ 32) × (FourTimes K k.now) }
-    ensures st_len { length st.new ≡ 32 }
+    ensures lengths { length st.new ≡ 32 }
     ensures each_lane { EachLane (λ l. state_at l st.new ≡ rounds_from 48 16 (schedule_at l w.now) (state_at l st.old)) }
 {
     let mut t = 48;
@@ -164,7 +164,7 @@ fn last_rounds(st: &mut [u32; 32], w: &[u32; 256], k: &[u32; 256])
 // In each lane, all rounds for the block whose 16 words stand at the front of its schedule.
 fn all_rounds(st: &mut [u32; 32], w: &mut [u32; 256], k: &[u32; 256])
     requires { (length st.old ≡ 32) × (length w.old ≡ 256) × (FourTimes K k.now) }
-    ensures st_len { (length st.new ≡ 32) × (length w.new ≡ 256) }
+    ensures lengths { (length st.new ≡ 32) × (length w.new ≡ 256) }
     ensures each_lane { EachLane (λ l. state_at l st.new ≡ rounds 64 (extended 48 (block_at l w.old)) (state_at l st.old)) }
 {
     first_rounds(st, w, k);
@@ -182,8 +182,8 @@ fn shared_round(s: State, w: &[u32; 64], k: &[u32; 256], t: usize, l: usize) -> 
 // In lane l, the rounds t to t + 3 by a shared schedule.
 fn lane_shared_rounds(st: &mut [u32; 32], w: &[u32; 64], k: &[u32; 256], t: usize, l: usize)
     requires { (t + 4 ≤ 64) × (l < 4) × (length st.old ≡ 32) × (FourTimes K k.now) }
-    ensures st_len { length st.new ≡ 32 }
-    ensures st_after { state_at l st.new ≡ rounds_from t 4 w.now (state_at l st.old) }
+    ensures lengths { length st.new ≡ 32 }
+    ensures lane { state_at l st.new ≡ rounds_from t 4 w.now (state_at l st.old) }
     ensures other_states { OtherStates l st.old st.new }
 {
     let s = state_of(st, l);
@@ -197,7 +197,7 @@ fn lane_shared_rounds(st: &mut [u32; 32], w: &[u32; 64], k: &[u32; 256], t: usiz
 // In each lane, the rounds t to t + 3 by a shared schedule.
 fn lanes_shared_rounds(st: &mut [u32; 32], w: &[u32; 64], k: &[u32; 256], t: usize)
     requires { (t + 4 ≤ 64) × (length st.old ≡ 32) × (FourTimes K k.now) }
-    ensures st_len { length st.new ≡ 32 }
+    ensures lengths { length st.new ≡ 32 }
     ensures each_lane { EachLane (λ l. state_at l st.new ≡ rounds_from t 4 w.now (state_at l st.old)) }
 {
     let mut l = 0;
@@ -210,7 +210,7 @@ fn lanes_shared_rounds(st: &mut [u32; 32], w: &[u32; 64], k: &[u32; 256], t: usi
 // In each lane, all rounds by a shared schedule.
 fn shared_rounds(st: &mut [u32; 32], w: &[u32; 64], k: &[u32; 256])
     requires { (length st.old ≡ 32) × (FourTimes K k.now) }
-    ensures st_len { length st.new ≡ 32 }
+    ensures lengths { length st.new ≡ 32 }
     ensures each_lane { EachLane (λ l. state_at l st.new ≡ rounds 64 w.now (state_at l st.old)) }
 {
     let mut t = 0;
@@ -223,8 +223,8 @@ fn shared_rounds(st: &mut [u32; 32], w: &[u32; 64], k: &[u32; 256])
 // In lane l, adds the state of old to that of st.
 fn add_lane(st: &mut [u32; 32], old: &[u32; 32], l: usize)
     requires { (l < 4) × (length st.old ≡ 32) }
-    ensures st_len { length st.new ≡ 32 }
-    ensures st_after { state_at l st.new ≡ add_states (state_at l old.now) (state_at l st.old) }
+    ensures lengths { length st.new ≡ 32 }
+    ensures lane { state_at l st.new ≡ add_states (state_at l old.now) (state_at l st.old) }
     ensures other_states { OtherStates l st.old st.new }
 {
     let s = sha256::add_states(state_of(old, l), state_of(st, l));
@@ -234,7 +234,7 @@ fn add_lane(st: &mut [u32; 32], old: &[u32; 32], l: usize)
 // In each lane, adds the state of old to that of st.
 fn add_lanes(st: &mut [u32; 32], old: &[u32; 32])
     requires { length st.old ≡ 32 }
-    ensures st_len { length st.new ≡ 32 }
+    ensures lengths { length st.new ≡ 32 }
     ensures each_lane { EachLane (λ l. state_at l st.new ≡ add_states (state_at l old.now) (state_at l st.old)) }
 {
     let mut l = 0;
@@ -247,7 +247,7 @@ fn add_lanes(st: &mut [u32; 32], old: &[u32; 32])
 // In each lane, the word j of the block b of its event, the first, second or third.
 fn load_row(events: &[u8], b: usize, w: &mut [u32; 256], j: usize)
     requires { (length events.now ≡ 768) × (b < 3) × (length w.old ≡ 256) × (j < 16) }
-    ensures w_len { length w.new ≡ 256 }
+    ensures lengths { length w.new ≡ 256 }
     ensures each_lane { EachLane (λ l. schedule_at l w.new
         ≡ set (schedule_at l w.old) j (word_at (part events.now (l * 192 + b * 64) 64) j)) }
 {
@@ -263,7 +263,7 @@ fn load_row(events: &[u8], b: usize, w: &mut [u32; 256], j: usize)
 // been stored for some time when they are read.
 fn load_events(events: &[u8], b: usize, w: &mut [u32; 256])
     requires { (length events.now ≡ 768) × (b < 3) × (length w.old ≡ 256) }
-    ensures w_len { length w.new ≡ 256 }
+    ensures lengths { length w.new ≡ 256 }
     ensures each_lane { EachLane (λ l. block_at l w.new ≡ words 16 (part events.now (l * 192 + b * 64) 64)) }
 {
     let mut j = 0;
@@ -277,8 +277,8 @@ fn load_events(events: &[u8], b: usize, w: &mut [u32; 256])
 // schedule is then known beforehand.
 fn is_constant(events: &[u8], b: usize) -> bool
     requires { (length events.now ≡ 768) × (b < 4) }
-    ensures each_lane { result ≡ true → EachLane (λ l. message_block (padded (part events.now (l * 192) 192) 1536) b ≡ constant_block b) }
-    ensures b_bound { result ≡ false → b < 3 }
+    ensures constant { result ≡ true → EachLane (λ l. message_block (padded (part events.now (l * 192) 192) 1536) b ≡ constant_block b) }
+    ensures below_3 { result ≡ false → b < 3 }
 {
     if b == 3 {
         return true;
@@ -309,7 +309,7 @@ fn constant_schedule(b: usize) -> [u32; 64]
 // In each lane, all rounds for the block b of its padded event.
 fn block_rounds(st: &mut [u32; 32], w: &mut [u32; 256], k: &[u32; 256], events: &[u8], b: usize)
     requires { (length st.old ≡ 32) × (length w.old ≡ 256) × (FourTimes K k.now) × (length events.now ≡ 768) × (b < 4) }
-    ensures st_len { (length st.new ≡ 32) × (length w.new ≡ 256) }
+    ensures lengths { (length st.new ≡ 32) × (length w.new ≡ 256) }
     ensures each_lane { EachLane (λ l. state_at l st.new
         ≡ rounds 64 (schedule (message_block (padded (part events.now (l * 192) 192) 1536) b)) (state_at l st.old)) }
 {
@@ -325,7 +325,7 @@ fn block_rounds(st: &mut [u32; 32], w: &mut [u32; 256], k: &[u32; 256], events: 
 // In each lane, 6.2.2 of FIPS 180-4 for the block b of its padded event.
 fn compress_lanes(st: &mut [u32; 32], w: &mut [u32; 256], k: &[u32; 256], events: &[u8], b: usize)
     requires { (length st.old ≡ 32) × (length w.old ≡ 256) × (FourTimes K k.now) × (length events.now ≡ 768) × (b < 4) }
-    ensures st_len { (length st.new ≡ 32) × (length w.new ≡ 256) }
+    ensures lengths { (length st.new ≡ 32) × (length w.new ≡ 256) }
     ensures each_lane { EachLane (λ l. state_at l st.new
         ≡ compress (state_at l st.old) (message_block (padded (part events.now (l * 192) 192) 1536) b)) }
 {
@@ -337,7 +337,7 @@ fn compress_lanes(st: &mut [u32; 32], w: &mut [u32; 256], k: &[u32; 256], events
 // In each lane, the initial hash value.
 fn start(st: &mut [u32; 32])
     requires { length st.old ≡ 32 }
-    ensures st_len { length st.new ≡ 32 }
+    ensures lengths { length st.new ≡ 32 }
     ensures each_lane { EachLane (λ l. state_at l st.new ≡ H0) }
 {
     let mut l = 0;
@@ -352,7 +352,7 @@ fn start(st: &mut [u32; 32])
 // knows that they do not overlap.
 pub fn four_states(events: &[u8], k: &[u32; 256], w: &mut [u32; 256]) -> [u32; 32]
     requires { (length events.now ≡ 768) × (FourTimes K k.now) × (length w.old ≡ 256) }
-    ensures w_len { length w.new ≡ 256 }
+    ensures lengths { length w.new ≡ 256 }
     ensures each_lane { EachLane (λ l. digest_bytes (state_at l result) ≡ sha256 (part events.now (l * 192) 192)) }
 {
     let mut st = [0u32; 32];

@@ -1,11 +1,10 @@
 -- What is read at an offset, and what a copy to an offset leaves.
 use mathlib.Core.Path.{◌≡◌, ap, ◌∙◌}
-use mathlib.Core.List.{◌++◌, append-nil}
+use mathlib.Core.List.{◌++◌}
 use Prim.Native.Nat.{ℕ, ◌+◌, ◌-◌, ◌*◌, ◌<◌, ◌≤◌}
 use native.Mathlib.Nat.{add-sub_cancel_left}
 use native.Mathlib.Omega.{arith}
-use lib.ListN.{length, take, drop, length-take, drop_of_length-le, get_or-eq_default}
-use lib.Seq.{take-length}
+use lib.ListN.{length, take, drop, get_or-eq_default}
 use borrow.Author.Tests.{le-leb, lt-leb}
 use Rattle.lists.specs.Bytes.{Bytes}
 use Rattle.octets.specs.Octets.{byte_at, be16, be32, pasted}
@@ -15,13 +14,10 @@ pub past_16 : (s : Bytes) (at : ℕ) → length s ≤ at → be16 s at ≡ 0
 past_16 s at h = rw (get_or-eq_default s 0 {n = at} h, get_or-eq_default s 0 {n = at + 1} (omega arith))
 
 -- what a copy into the part from an offset on leaves of the whole
-pub copied : (d s y : Bytes) (at : ℕ) → at + length s ≤ length d
-    → y ≡ take (length s) s ++ drop (length s) (take (at + length s - at) (drop at d))
-    → take at d ++ (y ++ drop (at + length s - at) (drop at d)) ≡ pasted d at s
+pub copied : (d s : Bytes) (at : ℕ) → at + length s ≤ length d
+    → take at d ++ (s ++ drop (at + length s - at) (drop at d)) ≡ pasted d at s
 unfolding pasted
-copied d s y at h e =
-    let short : length (take (length s) (drop at d)) ≤ length s = simp length-take (omega arith) in
-    rw (le-leb _ _ h, e, add-sub_cancel_left at (length s), take-length s, drop_of_length-le (take (length s) (drop at d)) short, append-nil s)
+copied d s at h = rw (le-leb _ _ h, add-sub_cancel_left at (length s))
 
 pub not_copied : (d s : Bytes) (at : ℕ) → length d < at + length s → pasted d at s ≡ d
 unfolding pasted

@@ -1,5 +1,8 @@
 // The printing program, as a function that small programs run: reads room.bun in the working directory and writes the room's text,
 // or the line of a refusal. What it writes is `page`'s output.
+
+#![tactic(auto)]
+
 ghost use Rattle.std.specs.Prelude.{◌≡◌, ◌≤◌, length, take};
 ghost use Rattle.print_program.specs.Page.{held_page, taken_page, started_page, page_of};
 

@@ -1,5 +1,8 @@
 // The test driver: reads a script of calls from standard input, record by record, runs each on areas of its own, and writes a
 // line for each. docs/REPLAY.md has the records and the lines.
+
+#![tactic(auto)]
+
 ghost use Rattle.std.specs.Prelude.{◌≡◌, length};
 ghost use Rattle.io.specs.Counts.{IsPrefixLen};
 

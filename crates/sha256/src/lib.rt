@@ -2,6 +2,9 @@
 //
 // It rests on std's wrapping sums, on bytes::copy and on octets::all_zero. `digest` and `event_id` promise, for every slice, the 32
 // bytes that `sha256` of specs/Sha256.antt gives: FIPS 180-4's own digest for each message of fewer than 2^64 bits.
+
+#![tactic(auto)]
+
 pub mod constants;
 
 ghost use Rattle.std.specs.Prelude.{◌≡◌, ℕ, ◌+◌, ◌*◌, ◌/◌, ◌%◌, ◌^◌, ◌<◌, ◌≤◌, List, ◌++◌, length, take, slice_index};

@@ -1,4 +1,7 @@
 // Working tables: u16 entries, and rows of bits.
+
+#![tactic(auto)]
+
 ghost use Rattle.std.specs.Prelude.{◌≡◌, ◌&&◌, ◌||◌, not, cond, true, false, ℕ, ◌+◌, ◌*◌, ◌<◌, ◌≤◌, eqb, length, get_or, take};
 ghost use Rattle.tables.specs.Bits.{bit_at};
 

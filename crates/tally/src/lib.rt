@@ -1,5 +1,8 @@
 // Takes that count their answers in a tally that the caller lends. Each wrapper hands the tally by value to a function that
 // takes and counts, and writes back the tally that this returns. Rests on `takes`.
+
+#![tactic(auto)]
+
 ghost use Rattle.std.specs.Prelude.{◌≡◌};
 ghost use Rattle.takes.specs.Takes.{answer_of_bundle, taken_left, bundle_left};
 ghost use Rattle.tally.specs.Tallies.{raised_by, tallied, take_tallied, bundle_tallied};

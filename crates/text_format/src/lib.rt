@@ -1,5 +1,8 @@
 // The text of the printing program, in a lent output: a first line with the numbers of links and verdicts, then a line for each row
 // of the map; or the line of a refusal. Rests on `octets`, `tables`, `model` and, for the length of a row, `cabling`.
+
+#![tactic(auto)]
+
 ghost use Rattle.std.specs.Prelude.{◌≡◌, ◌+◌, ◌*◌, ◌/◌, ◌≤◌, cond, eqb, length, take};
 ghost use mathlib.Core.List.{map, flatten};
 ghost use Rattle.octets.specs.Octets.{pasted};
@@ -90,7 +93,7 @@ fn leading_zeros(n: u16) -> usize
 // Writes a number without leading zeros; answers where it ends.
 fn write_number(out: &mut [u8], at: usize, n: u16) -> usize
     requires { at + length (decimal n) ≤ length out.old }
-    ensures out_after { out.new ≡ pasted out.old at (decimal n) }
+    ensures written { out.new ≡ pasted out.old at (decimal n) }
     ensures value { result ≡ at + length (decimal n) }
 {
     let digits = five_digits(n);
@@ -102,7 +105,7 @@ fn write_number(out: &mut [u8], at: usize, n: u16) -> usize
 // Writes a word and its number; answers where they end.
 fn write_field(out: &mut [u8], at: usize, word: &[u8], n: u16) -> usize
     requires { at + length (field word.now n) ≤ length out.old }
-    ensures out_after { out.new ≡ pasted out.old at (field word.now n) }
+    ensures written { out.new ≡ pasted out.old at (field word.now n) }
     ensures value { (result ≡ at + length (field word.now n)) × (result ≤ at + (length word.now + 5)) }
 {
     octets::paste(out, at, word);
@@ -112,7 +115,7 @@ fn write_field(out: &mut [u8], at: usize, word: &[u8], n: u16) -> usize
 // Writes the first line to the front of the output; answers its length.
 fn write_head(out: &mut [u8], links: u16, waiting: u16, unsound: u16, void: u16) -> usize
     requires { 51 ≤ length out.old }
-    ensures out_after { out.new ≡ overwritten (head_line links waiting unsound void) out.old }
+    ensures written { out.new ≡ overwritten (head_line links waiting unsound void) out.old }
     ensures value { (result ≡ length (head_line links waiting unsound void)) × (result ≤ 51) }
 {
     let a = write_field(out, 0, b"LINKS ", links);
@@ -127,7 +130,7 @@ fn write_head(out: &mut [u8], links: u16, waiting: u16, unsound: u16, void: u16)
 pub fn refusal_line(number: u8, out: &mut [u8]) -> usize
     requires { 12 ≤ length out.old }
     ensures value { result ≡ length (refusal_line number) }
-    ensures out_after { out.new ≡ overwritten (refusal_line number) out.old }
+    ensures written { out.new ≡ overwritten (refusal_line number) out.old }
 {
     let end = write_field(out, 0, b"REFUSED ", number as u16);
     octets::paste(out, end, b"\n");
@@ -190,7 +193,7 @@ fn count(verdicts: &[u16], k: u16) -> u16
 // Writes the first line for some links and verdicts to the front of the output; answers its length.
 fn write_counts(out: &mut [u8], links: u16, verdicts: &[u16]) -> usize
     requires { (51 ≤ length out.old) × (length verdicts.now ≤ 256) }
-    ensures out_after { out.new ≡ overwritten (head_of links verdicts.now) out.old }
+    ensures written { out.new ≡ overwritten (head_of links verdicts.now) out.old }
     ensures value { (result ≡ length (head_of links verdicts.now)) × (result ≤ 51) }
 {
     let waiting = count(verdicts, 0);
@@ -202,8 +205,8 @@ fn write_counts(out: &mut [u8], links: u16, verdicts: &[u16]) -> usize
 // Writes the text of the map call's rows and of one verdict an event to the front of the output, where it has room for all of it.
 fn write_text(rows: &[u8], verdicts: &[u16], out: &mut [u8]) -> Printed
     requires { (length rows.now ≤ 2048) × (length verdicts.now ≤ 256) }
-    ensures result_value { answer_of_printed result ≡ answer_of (text_of rows.now verdicts.now) out.old }
-    ensures out_after { out.new ≡ output_of (text_of rows.now verdicts.now) out.old }
+    ensures answer { answer_of_printed result ≡ answer_of (text_of rows.now verdicts.now) out.old }
+    ensures output { out.new ≡ output_of (text_of rows.now verdicts.now) out.old }
 {
     let n = rows.len() / ROW_BYTES;
     let mut head = [0u8; 51];
@@ -226,9 +229,9 @@ pub fn write_fronts(
     out: &mut [u8],
 ) -> Printed
     requires { (n ≤ 256) × (count ≤ 256) }
-    ensures result_value { answer_of_printed result
+    ensures answer { answer_of_printed result
         ≡ answer_of (text_of (take (n * 8) rows.now) (take count verdicts.now)) out.old }
-    ensures out_after { out.new
+    ensures output { out.new
         ≡ output_of (text_of (take (n * 8) rows.now) (take count verdicts.now)) out.old }
 {
     write_text(

@@ -1,5 +1,8 @@
 // The unit: the calls that a door unit offers, and the types of their answers. Nothing else is public here, and no call has a
 // `requires`. Each call is stated, coded and proved in the crate that decides it; a crate that calls the unit rests on these too.
+
+#![tactic(auto)]
+
 pub use bundles::first_event;
 pub use cords::document_table;
 pub use event::{Refusal, number};

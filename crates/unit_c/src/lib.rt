@@ -3,6 +3,9 @@
 // refusal's number of document 01; what it answers besides goes to numbers behind pointers, which a refusal leaves as they were, but for the count of
 // a refused start, which is 0. Each makes one call of `unit`, or of the crate below it that answers by value, and shows the answer;
 // `include/pelchunda.h` declares them.
+
+#![tactic(auto)]
+
 ghost use Rattle.std.specs.Prelude.{◌≡◌, [], ◌∷◌, ◌++◌};
 ghost use Rattle.event.specs.Answers.{shown_number};
 ghost use Rattle.store.specs.LookUp.{look_up_of};
@@ -47,8 +50,8 @@ pub extern "C" fn pelchunda_version() -> u32
 
 // A take's answer: `repeat` is 0 where the event was stored, 1 where its id is held already.
 fn show_placed(answer: TakeAnswer, repeat: &mut u8) -> u8
-    ensures value { result ≡ shown_number (answer_of_take answer) }
-    ensures repeat_after { repeat.new ≡ kept placed_number repeat.old (answer_of_take answer) }
+    ensures number { result ≡ shown_number (answer_of_take answer) }
+    ensures repeat { repeat.new ≡ kept placed_number repeat.old (answer_of_take answer) }
 {
     match answer {
         TakeAnswer::Stored => {
@@ -82,8 +85,8 @@ fn to_figures(t: Tally) -> [u32; 3]
 
 // A bundle's answer: its three figures.
 fn show_figures(answer: BundleAnswer, figures: &mut [u32; 3]) -> u8
-    ensures value { result ≡ shown_number (answer_of_bundle answer) }
-    ensures figures_after { figures.new ≡ kept figure_list figures.old (answer_of_bundle answer) }
+    ensures number { result ≡ shown_number (answer_of_bundle answer) }
+    ensures figures { figures.new ≡ kept figure_list figures.old (answer_of_bundle answer) }
 {
     match answer {
         BundleAnswer::Figures(f) => {
@@ -96,8 +99,8 @@ fn show_figures(answer: BundleAnswer, figures: &mut [u32; 3]) -> u8
 
 // An answer that is one number.
 fn show_count(answer: CountAnswer, count: &mut usize) -> u8
-    ensures value { result ≡ shown_number (answer_of_count answer) }
-    ensures count_after { count.new ≡ kept (λ n. n) count.old (answer_of_count answer) }
+    ensures number { result ≡ shown_number (answer_of_count answer) }
+    ensures count { count.new ≡ kept (λ n. n) count.old (answer_of_count answer) }
 {
     match answer {
         CountAnswer::Count(n) => {

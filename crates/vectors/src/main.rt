@@ -1,5 +1,8 @@
 // Writes SHA-256 digests, a line for each message: its length, or the number of events in its table, and the digest in
 // hexadecimal. tools/vectors.py makes the expected lines by another implementation.
+
+#![tactic(auto)]
+
 ghost use Rattle.std.specs.Prelude.{◌<◌, ◌≤◌, length};
 
 use libc::STDOUT_FILENO;

@@ -1,4 +1,7 @@
 // From sound to effective: which places no effective revoke strikes, the verdicts, and the places that run.
+
+#![tactic(auto)]
+
 ghost use Rattle.std.specs.Prelude.{◌≡◌, Bool, not, ◌&&◌, ◌||◌, ℕ, ◌<◌, ◌≤◌, eqb, length, get_or};
 ghost use Rattle.ordering.specs.Placed.{Settled};
 ghost use Rattle.tables.specs.Bits.{bit_at};
@@ -68,7 +71,7 @@ fn effect(
 ) -> u16
     requires { (e < 256) × (get_or presented.now e 0 < 256) }
     ensures value { result ≡ bit (bit_at keep.old (get_or presented.now e 0) e) }
-    ensures by_index { (a b : ℕ) → a < 256 → bit_at keep.new a b
+    ensures kept { (a b : ℕ) → a < 256 → bit_at keep.new a b
         ≡ narrowed presented.now targets.now rows.now keep.old e a b }
 {
     let g = presented[e as usize];
