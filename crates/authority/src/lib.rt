@@ -17,21 +17,21 @@ use event::{Body, Grant, NAMED_IDS, Parsed};
 use ordering::{MISSING, NONE};
 
 // An ancestor that an event names by its id: its place, or that there is none.
-#[derive(Drop)]
+#[derive(Clone, Copy)]
 pub enum Ancestor {
     At(u16),
     Nowhere,
 }
 
 // What P gives, and the place where it stands.
-#[derive(Drop)]
+#[derive(Clone, Copy)]
 pub struct Given {
     pub place: u16,
     pub grant: Grant,
 }
 
 // What an event presents: an ancestor that gives a grant, another ancestor, or no ancestor.
-#[derive(Drop)]
+#[derive(Clone, Copy)]
 pub enum Presented {
     Gives(Given),
     Other(u16),

@@ -10,7 +10,7 @@ use libc::STDOUT_FILENO;
 use unit::{CountAnswer, TakeAnswer};
 
 // What was read of a file: so many bytes, or that a read failed.
-#[derive(Drop)]
+#[derive(Clone, Copy)]
 enum FileRead {
     Bytes(usize),
     Failed,

@@ -13,7 +13,7 @@ use takes::{BundleAnswer, TakeAnswer, Tally};
 
 // What later calls are lent beside the areas: the count, how many bytes of the store area are the store and how many of the table area the
 // cord table, and the tally.
-#[derive(Drop)]
+#[derive(Clone, Copy)]
 struct State {
     count: usize,
     length: usize,
@@ -22,14 +22,14 @@ struct State {
 }
 
 // What a record of the script leads to: the state after it, or the end of the program.
-#[derive(Drop)]
+#[derive(Clone, Copy)]
 enum Next {
     Go(State),
     Stop,
 }
 
 // What is read of the script: a record's letter and its payload's length, the end, or a record that breaks off or is too long.
-#[derive(Drop)]
+#[derive(Clone, Copy)]
 enum Input {
     Record(u8, usize),
     End,

@@ -3,7 +3,7 @@
 use Rattle.std.proofs.Common.{◌≡◌, ℕ, suc, ◌+◌, ◌-◌, ◌*◌, ◌/◌, ◌%◌, ◌^◌, ◌<◌, ◌≤◌, List, ◌∷◌, ◌++◌, length, take, drop, set, replicate, sym, refl, ap, ◌∙◌, ap₂, append_assoc, arith, length-append, length-drop, length-take-le, take_all, take_at, drop_at}
 use lib.ListN.{length-replicate}
 use lib.ListN.{replicate-append-replicate}
-use lib.Seq.{take-length, drop-append-le, set_at}
+use lib.Seq.{drop-append-le, set_at}
 use Rattle.sha256.specs.Sha256.{word_bytes, length_bytes, zeros, padded, compress, hash_blocks, hash_all}
 use Rattle.sha256.specs.declared.State.{State}
 use Rattle.sha256.proofs.Blocks.{blocks_append, blocks_add, one_block, two_blocks}
@@ -12,7 +12,7 @@ use Rattle.sha256.proofs.Blocks.{blocks_append, blocks_add, one_block, two_block
 
 -- l is the buffer with the rest r copied into it
 module _ (r l : List ℕ) (n : ℕ) (hn : n ≡ length r)
-    (hl : l ≡ take (length r) r ++ drop (length r) (replicate 128 0)) where
+    (hl : l ≡ r ++ drop (length r) (replicate 128 0)) where
   -- up to `at`: the rest, the byte 0x80 and k zeros
   before-length : (k at : ℕ) → at ≡ length r + suc k → at ≤ 128 → take at (set l n 0x80) ≡ r ++ 0x80 ∷ replicate k 0
   before-length k at e h =
@@ -22,7 +22,7 @@ module _ (r l : List ℕ) (n : ℕ) (hn : n ≡ length r)
       (rw a at (ap (drop {A = ℕ} (length r)) (sym (replicate-append-replicate (length r) (suc (k + j)) 0))))
       ∙ drop_at (replicate {A = ℕ} (length r) 0) _ (length r) (length-replicate (length r) 0) in
       let s : set l n 0x80 ≡ r ++ 0x80 ∷ replicate (k + j) 0 =
-      rw (hn, hl, d, take-length r) (set_at r 0 (replicate (k + j) 0) 0x80 (length r) refl) in
+      rw (hn, hl, d) (set_at r 0 (replicate (k + j) 0) 0x80 (length r) refl) in
       let t : r ++ 0x80 ∷ replicate (k + j) 0 ≡ r ++ 0x80 ∷ replicate k 0 ++ replicate j 0 =
       simp (append_assoc, replicate-append-replicate) in
       ap (take at) (s ∙ t)

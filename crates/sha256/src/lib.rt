@@ -1,6 +1,6 @@
 // SHA-256 of byte strings, as FIPS 180-4 defines it.
 //
-// It rests on std's wrapping sums, on bytes::copy and on octets::all_zero. `digest` and `event_id` promise, for every slice, the 32
+// It rests on std's wrapping sums, on octets::paste and on octets::all_zero. `digest` and `event_id` promise, for every slice, the 32
 // bytes that `sha256` of specs/Sha256.antt gives: FIPS 180-4's own digest for each message of fewer than 2^64 bits.
 
 #![tactic(auto)]
@@ -20,7 +20,7 @@ use constants::{PADDING_SCHEDULE, ROUND_CONSTANTS};
 use std::num::wrapping_add_u32;
 
 // A hash value, or the working variables of a round.
-#[derive(Drop)]
+#[derive(Clone, Copy)]
 pub struct State {
     pub a: u32,
     pub b: u32,
@@ -106,7 +106,8 @@ fn hash_rest(s: State, rest: &[u8], bits: u64) -> State
     ensures { result ≡ hash_all s (padded rest.now bits) }
 {
     let mut tail = [0u8; 128];
-    let n = bytes::copy(rest, &mut tail);
+    octets::paste(&mut tail, 0, rest);
+    let n = rest.len();
     tail[n] = 0x80;
     if n < 56 {
         store_word(&mut tail, 56, (bits >> 32) as u32);

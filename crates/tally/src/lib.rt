@@ -10,7 +10,7 @@ ghost use Rattle.tally.specs.Tallies.{raised_by, tallied, take_tallied, bundle_t
 use takes::{BundleAnswer, BundleTaken, Taken, Tally};
 
 // What a take gives, and the tally with its answer counted.
-#[derive(Drop)]
+#[derive(Clone, Copy)]
 pub struct Counted {
     pub tally: Tally,
     pub taken: Taken,
@@ -44,7 +44,7 @@ pub fn take_counted(
 }
 
 // What a take of a bundle gives, and the tally with its figures added.
-#[derive(Drop)]
+#[derive(Clone, Copy)]
 pub struct CountedBundle {
     pub tally: Tally,
     pub taken: BundleTaken,

@@ -28,7 +28,7 @@ ghost use Rattle.text_format.specs.Steps.{leading_zeros, head_of};
 use cabling::ROW_BYTES;
 
 // How many bytes the text has, or that the output is too short for it.
-#[derive(Drop)]
+#[derive(Clone, Copy)]
 pub enum Printed {
     Bytes(usize),
     Short,

@@ -1,0 +1,10 @@
+use Rattle.std.proofs.Common.{ℕ, List, ap, ◌∙◌}
+use Rattle.sha256.specs.Sha256.{extended, rounds, add_states, compress}
+use Rattle.sha256.proofs.compress_by.Goals as goal
+
+pub returns : goal.returns
+unfolding compress
+returns c = let s = c.args.s in
+    c.add_states.ensures
+    ∙ ap (add_states s) (c.last_rounds.ensures _ _ c.first_rounds-r.ensures
+    ∙ ap (λ (m : List ℕ). rounds 64 (extended 48 m) s) c.load_words.ensures.1)

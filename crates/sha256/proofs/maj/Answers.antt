@@ -1,0 +1,9 @@
+use Rattle.std.proofs.Common.{arith}
+use Rattle.sha256.proofs.Digits.{maj_form}
+use Rattle.sha256.proofs.maj.Goals as goal
+
+-- `sha256::maj` meets its contract.
+-- Assumes nothing.
+
+pub returns : goal.returns
+returns c = maj_form c.args.x c.args.y c.args.z (omega arith) (omega arith) (omega arith)
