@@ -177,7 +177,7 @@ module _ (v : View) (e : Event) where
   from← f c =
       let p = given← c.given (c.giver, c.presents_ancestor, c.giver_found, c.giver_gives) in
       let a = eq-eqb c.given.subject e.author c.to_author_lem in
-      rw (f, p, all← (sound v) e.parents c.parents_sound_lem, a, c.has_right, body← c.given e.body c.rights_within)
+      rw (f, p, all← (sound v) e.parents c.parents_sound_lem, a, c.has_right_lem, body← c.given e.body c.rights_within)
       (target← c.target_suits_lem)
 
 -- ── the laws ────────────────────────────────────────────────────────────────────────────────────────────────────────────
