@@ -36,7 +36,7 @@ pub fn take_counted(
     tally: &mut Tally,
 ) -> Taken
     ensures { take_tallied table.now store.old count e.now tally.old
-        ≡ record { left = taken_left result store.new; tally = tally.new } }
+        ≡ record { left = taken_left result store.new; tally = tally.exit.now } }
 {
     let done = take_with(store, count, table, e, *tally);
     *tally = done.tally;
@@ -101,7 +101,7 @@ pub fn take_bundle_counted(
     tally: &mut Tally,
 ) -> BundleTaken
     ensures { bundle_tallied table.now store.old count b.now tally.old
-        ≡ record { left = bundle_left result store.new; tally = tally.new } }
+        ≡ record { left = bundle_left result store.new; tally = tally.exit.now } }
 {
     let done = bundle_with(store, count, table, b, *tally);
     *tally = done.tally;
