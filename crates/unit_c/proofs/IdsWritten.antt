@@ -16,7 +16,7 @@ use Rattle.octets.specs.Octets.{pasted}
 use Rattle.sha256.specs.Sha256.{sha256, sha256-length}
 use Rattle.cords.specs.DocumentTable.{document_table}
 use Rattle.model.specs.Output.{overwritten, overwritten_more}
-use Rattle.event.specs.Answers.{value, must, first_failed}
+use Rattle.event.specs.Answers.{must, first_failed}
 use Rattle.unit_c.specs.Numbers.{Shown, show_output, document_of, id_tests, id_of, ids_of}
 
 -- an output that holds what was to be written

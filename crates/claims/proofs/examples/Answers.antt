@@ -1,0 +1,5 @@
+use Rattle.model.specs.Examples.{examples}
+use Rattle.claims.proofs.examples.Goals as goal
+
+pub returns : goal.returns
+returns c = examples
