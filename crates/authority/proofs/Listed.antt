@@ -11,7 +11,7 @@ use lib.Seq.{get_or-set_same, get_or-set_other, take_all}
 use borrow.Author.Tests.{eqb-true, eqb-false}
 use Rattle.lists.specs.Bytes.{Bytes}
 use Rattle.lists.specs.Cases.{by_bool}
-use Rattle.lists.specs.Sorting.{mem_get_d}
+use Rattle.lists.proofs.Sorting.{mem_get_d}
 use Rattle.ordering.specs.Order.{Ordered}
 use Rattle.ordering.specs.OrderLaws.{parents_listed}
 use Rattle.tables.specs.Filling.{more→, more←, last}

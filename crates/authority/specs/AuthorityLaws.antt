@@ -20,10 +20,11 @@ use Rattle.event.specs.Fields.{parent_count, parent_ids, parent_id, event_at}
 use Rattle.model.specs.Events.{Id, Event, creates as createsBody, revokes, is_create, is_grant, is_revoke}
 use Rattle.model.specs.Heights.{find_in, View, view, ancestor}
 use Rattle.model.specs.Verdicts.{given_by, parents_sound as parentsSoundIn, presented_grant, to_author, has_right, permits, target_suits, sound_from, sound}
-use Rattle.model.specs.HeightLaws.{height→, settled→}
-use Rattle.model.specs.SoundLaws.{SoundBy, sound-settled, sound_law, sound-creator, sound→}
+use Rattle.model.proofs.HeightLaws.{height→, settled→}
+use Rattle.model.specs.SoundLaws.{SoundBy}
+use Rattle.model.proofs.SoundLaws.{sound-settled, sound_law, sound-creator, sound→}
 use Rattle.model.specs.Store.{event_of, held_in}
-use Rattle.model.specs.Packing.{kind_other}
+use Rattle.model.proofs.Packing.{kind_other}
 use Rattle.store.specs.declared.Slot.TheVariants.{At as Held, Gap}
 use Rattle.store.specs.Tables.{slot_in}
 use Rattle.ordering.specs.Named.{no_place, place_by}

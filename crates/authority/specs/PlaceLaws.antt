@@ -11,15 +11,16 @@ use Rattle.std.proofs.Math.ListN.{get_or}
 use borrow.Author.Tests.{eqb-true, lt-ltb}
 use Rattle.lists.specs.Cases.{maybe, by_bool, clash_option}
 use Rattle.lists.specs.Bytes.{Bytes, same_bytes}
-use Rattle.lists.specs.Tests.{any_of, member_of, any_map, any_cong}
+use Rattle.lists.specs.Tests.{any_of, member_of}
+use Rattle.lists.proofs.Tests.{any_map, any_cong}
 use Rattle.event.specs.Fields.{kind_of, presented_of, target_of, names_id, named_id, event_at}
 use Rattle.event.specs.Contents.{body_of}
 use Rattle.model.specs.Events.{Id, Event, grants, revokes, is_grant, is_revoke}
 use Rattle.model.specs.Heights.{find_in, View, view, height, settled, ancestor}
 use Rattle.model.specs.Verdicts.{line, target_suits}
-use Rattle.model.specs.HeightLaws.{height_found, settled→}
-use Rattle.model.specs.AncestryLaws.{descendant_settled, ancestor-height, ancestor-settled}
-use Rattle.model.specs.LineLaws.{line_presents, line_ends}
+use Rattle.model.proofs.HeightLaws.{height_found, settled→}
+use Rattle.model.proofs.AncestryLaws.{descendant_settled, ancestor-height, ancestor-settled}
+use Rattle.model.proofs.LineLaws.{line_presents, line_ends}
 use Rattle.model.specs.Store.{event_of, held_in}
 use Rattle.store.specs.Tables.{slot_in}
 use Rattle.ordering.specs.Named.{missing, no_place, place_by, named_place}

@@ -16,9 +16,12 @@ use mathlib.Core.List.{
 }
 use Rattle.std.proofs.Math.Seq.{append_snoc}
 use Rattle.lists.specs.Cases.{maybe, is_some, by_bool, clash_option}
-use Rattle.lists.specs.Bytes.{Bytes, same_bytes, same→}
-use Rattle.lists.specs.Tests.{member_of, member→, member←, keep, keep_cong, keep-keep, keep_append}
-use Rattle.lists.specs.Sorting.{Distinct, distinct_apart}
+use Rattle.lists.specs.Bytes.{Bytes, same_bytes}
+use Rattle.lists.proofs.Bytes.{same→}
+use Rattle.lists.specs.Tests.{member_of, keep}
+use Rattle.lists.proofs.Tests.{member→, member←, keep_cong, keep-keep, keep_append}
+use Rattle.lists.specs.Sorting.{Distinct}
+use Rattle.lists.proofs.Sorting.{distinct_apart}
 use Rattle.lists.specs.Once.{once_each}
 use Rattle.lists.specs.Chunks.{length-chunks}
 use Rattle.octets.specs.Octets.{part}
@@ -29,7 +32,8 @@ use Rattle.event.specs.Checks.{refusal}
 use Rattle.event.specs.CheckLaws.{offer_not_2}
 use Rattle.model.specs.Bundle.{bundle_good, events_in}
 use Rattle.model.specs.Store.{store_good}
-use Rattle.model.specs.StoreLaws.{Checked, checked→, Held, places_first, checked_held, creator→, later→}
+use Rattle.model.specs.StoreLaws.{Checked, Held}
+use Rattle.model.proofs.StoreLaws.{checked→, places_first, checked_held, creator→, later→}
 use Rattle.takes.specs.Takes.{Placed, stored, Left, start_of, placed, take_answer, take_of, Run, step, run_of}
 use Rattle.takes.specs.TakeLaws.{
   number_in,

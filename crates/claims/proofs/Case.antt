@@ -9,7 +9,8 @@ use mathlib.Core.List.{[], ◌∷◌, flatten, Memᴰ}
 use lib.ListN.{length, replicate, length-replicate}
 use borrow.Author.Tests.{le-leb}
 use Rattle.lists.specs.Cases.{clash}
-use Rattle.lists.specs.Bytes.{Bytes, same_bytes, same←}
+use Rattle.lists.specs.Bytes.{Bytes, same_bytes}
+use Rattle.lists.proofs.Bytes.{same←}
 use Rattle.lists.specs.Tests.{SameMembers}
 use Rattle.sha256.specs.Sha256.{sha256}
 use Rattle.sha256.specs.Vectors.{sha256_computed}

@@ -19,9 +19,10 @@ use lib.ListN.{length}
 use borrow.Author.Tests.{lt-ltb}
 use Rattle.lists.specs.Cases.{by_bool, clash}
 use Rattle.lists.specs.Bytes.{Bytes}
-use Rattle.lists.specs.Tests.{member_of, member←, Within}
+use Rattle.lists.specs.Tests.{member_of, Within}
+use Rattle.lists.proofs.Tests.{member←}
 use Rattle.lists.specs.Sorting.{Distinct}
-use Rattle.lists.specs.Counting.{distinct_length}
+use Rattle.lists.proofs.Counting.{distinct_length}
 use Rattle.lists.specs.Chunks.{length-chunks}
 use Rattle.octets.specs.Octets.{part}
 use Rattle.sha256.specs.Sha256.{sha256}
@@ -29,7 +30,7 @@ use Rattle.cords.specs.Lent.{lent_entry}
 use Rattle.event.specs.Answers.{value}
 use Rattle.event.specs.Checks.{refusal}
 use Rattle.model.specs.Store.{places, store_good}
-use Rattle.model.specs.StoreLaws.{checked→, checked_held, places_first}
+use Rattle.model.proofs.StoreLaws.{checked→, checked_held, places_first}
 use Rattle.takes.specs.Takes.{stored, repeat, take_answer, after_take, counted, Run, step, run_of}
 use Rattle.takes.specs.TakeLaws.{Good, take_by_lem, take_answer_good, take_places, take-creator, take_keeps}
 

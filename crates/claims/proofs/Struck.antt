@@ -10,18 +10,18 @@ use lib.ListN.{length}
 use borrow.Author.Tests.{le-leb}
 use Rattle.lists.specs.Cases.{maybe, is_some}
 use Rattle.lists.specs.Bytes.{Bytes}
-use Rattle.lists.specs.Tests.{all←}
+use Rattle.lists.proofs.Tests.{all←}
 use Rattle.cords.specs.Lent.{lent_entry, table_good}
 use Rattle.event.specs.Answers.{refused, value, Test, must, first_failed}
 use Rattle.event.specs.CheckLaws.{passed→}
 use Rattle.model.specs.Events.{Id}
 use Rattle.model.specs.Heights.{View, height, order}
-use Rattle.model.specs.HeightLaws.{height_bound}
+use Rattle.model.proofs.HeightLaws.{height_bound}
 use Rattle.model.specs.Verdicts.{verdict}
 use Rattle.model.specs.Map.{machine}
 use Rattle.model.specs.Rows.{order_bytes, map_bytes, written_bytes}
 use Rattle.model.specs.Store.{held_in, store_good}
-use Rattle.model.specs.StoreLaws.{held-length, checked→}
+use Rattle.model.proofs.StoreLaws.{held-length, checked→}
 use Rattle.store.specs.LookUp.{store_long, lent_tests}
 use Rattle.reports.specs.Reports.{held_view, output_tests, write_tests, verdict_tests, report, figures_of, order_of, map_of, written_of, verdict_of}
 use Rattle.claims.specs.Struck.{

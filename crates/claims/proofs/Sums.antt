@@ -14,7 +14,7 @@ use Rattle.model.specs.Bundle.{trailer_at, distance_in, bundle_good, count_in, e
 use Rattle.model.specs.Store.{store_good}
 use Rattle.model.specs.Heights.{View}
 use Rattle.model.specs.Map.{machine}
-use Rattle.model.specs.MapLaws.{joins-run}
+use Rattle.model.proofs.MapLaws.{joins-run}
 use Rattle.model.specs.Rows.{map_bytes}
 use Rattle.store.specs.LookUp.{store_long}
 use Rattle.bundles.specs.BundleCheck.{passes_8}

@@ -4,7 +4,7 @@ use mathlib.Core.Path.{sym, ◌∙◌}
 use mathlib.Core.List.{List, map}
 use Rattle.lists.specs.Bytes.{Bytes}
 use Rattle.model.specs.Store.{event_of}
-use Rattle.model.specs.MapLaws.{row_by}
+use Rattle.model.proofs.MapLaws.{row_by}
 use Rattle.call_lists.specs.Calls.{Fits, Lent}
 use Rattle.claims.specs.Told.{Tells}
 use Rattle.claims.specs.ThirdDemand.{Equal, leaves, ThirdDemand}

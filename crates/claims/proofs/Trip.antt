@@ -11,9 +11,10 @@ use lib.Dec.{eqb}
 use lib.ListN.{length, drop}
 use lib.Seq.{length-take-le, take_at}
 use borrow.Author.Tests.{eq-eqb, le-leb}
-use Rattle.lists.specs.Bytes.{Bytes, same_refl}
-use Rattle.lists.specs.Tests.{keep_all}
-use Rattle.lists.specs.Counting.{distinct_length}
+use Rattle.lists.specs.Bytes.{Bytes}
+use Rattle.lists.proofs.Bytes.{same_refl}
+use Rattle.lists.proofs.Tests.{keep_all}
+use Rattle.lists.proofs.Counting.{distinct_length}
 use Rattle.lists.specs.Chunks.{AllOfLength, length-chunks}
 use Rattle.sha256.specs.Sha256.{sha256}
 use Rattle.cords.specs.Lent.{lent_entry}
@@ -23,7 +24,8 @@ use Rattle.event.specs.Contents.{body_of}
 use Rattle.event.specs.Checks.{cord_good, refusal}
 use Rattle.event.specs.CheckLaws.{passes→}
 use Rattle.model.specs.Store.{held_in}
-use Rattle.model.specs.StoreLaws.{Checked, checked→, Held, checked_held, places_first, creator→, later→}
+use Rattle.model.specs.StoreLaws.{Checked, Held}
+use Rattle.model.proofs.StoreLaws.{checked→, checked_held, places_first, creator→, later→}
 use Rattle.model.specs.Bundle.{bundle_good, events_in}
 use Rattle.model.specs.Rows.{written_bytes}
 use Rattle.model.specs.Output.{overwritten}

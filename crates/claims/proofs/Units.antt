@@ -9,9 +9,10 @@ use borrow.Author.Tests.{eq-eqb}
 use Rattle.lists.specs.Cases.{is_some, by_bool}
 use Rattle.lists.specs.Bytes.{Bytes}
 use Rattle.lists.specs.Tests.{Within, SameMembers}
-use Rattle.lists.specs.Sorting.{Distinct, distinct_one, distinct_map}
-use Rattle.lists.specs.Once.{once→, once←, once_distinct}
-use Rattle.lists.specs.Counting.{distinct_length}
+use Rattle.lists.specs.Sorting.{Distinct}
+use Rattle.lists.proofs.Sorting.{distinct_one, distinct_map}
+use Rattle.lists.proofs.Once.{once→, once←, once_distinct}
+use Rattle.lists.proofs.Counting.{distinct_length}
 use Rattle.sha256.specs.Sha256.{sha256}
 use Rattle.event.specs.Answers.{first_failed}
 use Rattle.model.specs.Store.{event_of, held_in}
@@ -19,7 +20,7 @@ use Rattle.model.specs.Heights.{View, order}
 use Rattle.model.specs.Map.{machine}
 use Rattle.model.specs.Rows.{order_bytes, map_bytes, written_bytes}
 use Rattle.model.specs.SetLaws.{DistinctIds}
-use Rattle.model.specs.Agreement.{view_same}
+use Rattle.model.proofs.Agreement.{view_same}
 use Rattle.takes.specs.TakeLaws.{Good}
 use Rattle.call_lists.specs.Calls.{Fits, Lent, held_by, set_of}
 use Rattle.call_lists.specs.CallLaws.{set-held, calls_good}

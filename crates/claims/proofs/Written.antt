@@ -10,16 +10,17 @@ use mathlib.Core.List.{List, [], ◌++◌, map, flatten, Memᴰ}
 use lib.ListN.{length, length-append, length-map}
 use Rattle.lists.specs.Cases.{by_bool, clash_option}
 use Rattle.lists.specs.Bytes.{Bytes}
-use Rattle.lists.specs.Tests.{keep, keep_split, Within, SameMembers}
-use Rattle.lists.specs.Sorting.{sort_length}
+use Rattle.lists.specs.Tests.{keep, Within, SameMembers}
+use Rattle.lists.proofs.Tests.{keep_split}
+use Rattle.lists.proofs.Sorting.{sort_length}
 use Rattle.lists.specs.Chunks.{AllOfLength, length-flatten}
 use Rattle.model.specs.Events.{Event}
 use Rattle.model.specs.Store.{event_of}
 use Rattle.model.specs.Bundle.{trailer, packed, bundle_good, events_in, unpacked}
 use Rattle.model.specs.Heights.{view, settled, order_key, order, waiting, written}
 use Rattle.model.specs.Rows.{written_bytes}
-use Rattle.model.specs.OrderLaws.{order→, order←, waiting→, waiting←}
-use Rattle.model.specs.Packing.{trailer-length, unpacked-packed}
+use Rattle.model.proofs.OrderLaws.{order→, order←, waiting→, waiting←}
+use Rattle.model.proofs.Packing.{trailer-length, unpacked-packed}
 use Rattle.claims.specs.Told.{set_view}
 
 -- the written events' bytes

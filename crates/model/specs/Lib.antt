@@ -11,7 +11,6 @@ pub mod Examples
 pub mod SetLaws
 pub mod HeightLaws
 pub mod AncestryLaws
-pub mod LineLaws
 pub mod SoundLaws
 pub mod VoidLaws
 pub mod OrderLaws
@@ -19,5 +18,4 @@ pub mod MapLaws
 pub mod Agreement
 pub mod Knowledge
 pub mod StoreLaws
-pub mod Packing
 pub mod Pieces

@@ -13,8 +13,8 @@ use Rattle.event.specs.declared.Refusal.{Refusal}
 use Rattle.event.specs.Answers.{refused, number_of, first_failed}
 use Rattle.model.specs.Verdicts.{verdict}
 use Rattle.model.specs.Map.{Link, machine}
-use Rattle.model.specs.MapLaws.{links_few}
-use Rattle.model.specs.StoreLaws.{held-length}
+use Rattle.model.proofs.MapLaws.{links_few}
+use Rattle.model.proofs.StoreLaws.{held-length}
 use Rattle.model.specs.Output.{overwritten}
 use Rattle.model.specs.Store.{held_in}
 use Rattle.cabling.specs.declared.Ran.{Ran}

@@ -22,13 +22,13 @@ use Rattle.event.specs.Checks.{cord_good, refusal}
 use Rattle.event.specs.CheckLaws.{passes→, join_ports}
 use Rattle.model.specs.Events.{Event}
 use Rattle.model.specs.Store.{event_of, places, held_in, creator_good, store_good}
-use Rattle.model.specs.StoreLaws.{checked→, checked_held, places_first, creator→, later→}
+use Rattle.model.proofs.StoreLaws.{checked→, checked_held, places_first, creator→, later→}
 use Rattle.model.specs.Heights.{view}
 use Rattle.model.specs.Verdicts.{verdict}
 use Rattle.model.specs.Map.{map_rows}
 use Rattle.model.specs.Rows.{map_bytes}
-use Rattle.model.specs.MapLaws.{row_by}
-use Rattle.model.specs.Packing.{held-set}
+use Rattle.model.proofs.MapLaws.{row_by}
+use Rattle.model.proofs.Packing.{held-set}
 use Rattle.text_format.specs.Text.{text_of, room_text}
 use Rattle.text_format.specs.TextLaws.{Fits, text_of_set}
 

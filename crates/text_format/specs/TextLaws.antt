@@ -8,7 +8,8 @@ use Rattle.std.proofs.Math.Dec.{eqb}
 use Rattle.std.proofs.Math.ListN.{length, length-map}
 use Rattle.lists.specs.Cases.{by_bool}
 use Rattle.lists.specs.Bytes.{Bytes, precedes}
-use Rattle.lists.specs.Tests.{keep, keep-map}
+use Rattle.lists.specs.Tests.{keep}
+use Rattle.lists.proofs.Tests.{keep-map}
 use Rattle.lists.specs.Sorting.{insert_by, sort_by}
 use Rattle.lists.specs.Chunks.{chunks, AllOfLength, length-flatten, chunks-flatten}
 use Rattle.event.specs.declared.Cord.{Cord}

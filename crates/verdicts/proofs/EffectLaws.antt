@@ -17,19 +17,21 @@ use lib.ListN.{get_or, take}
 use borrow.Author.Tests.{eqb-true, eqb-false, eq-eqb, ne_eqb, ltb-true, lt-ltb}
 use Rattle.lists.specs.Cases.{by_bool, clash, bool_eq, and→, and←, or→, or←l, or←r}
 use Rattle.lists.specs.Bytes.{Bytes}
-use Rattle.lists.specs.Tests.{member_of, member→, member←}
+use Rattle.lists.specs.Tests.{member_of}
+use Rattle.lists.proofs.Tests.{member→, member←}
 use Rattle.event.specs.Fields.{event_at}
 use Rattle.model.specs.Events.{Id, Event, is_create, is_revoke}
 use Rattle.model.specs.Heights.{find_in, View, view, settled, ancestor}
 use Rattle.model.specs.Verdicts.{line, sound, effective, void, verdict}
-use Rattle.model.specs.HeightLaws.{settled→, height_found}
-use Rattle.model.specs.AncestryLaws.{ancestor-settled}
-use Rattle.model.specs.LineLaws.{line-creator, on_line_lem}
-use Rattle.model.specs.SetLaws.{find→}
-use Rattle.model.specs.SoundLaws.{sound-settled, sound-creator, sound→, presents}
-use Rattle.model.specs.VoidLaws.{Struck as StruckEvent, EffectiveBy, effective_unique}
+use Rattle.model.proofs.HeightLaws.{settled→, height_found}
+use Rattle.model.proofs.AncestryLaws.{ancestor-settled}
+use Rattle.model.proofs.LineLaws.{line-creator, on_line_lem}
+use Rattle.model.proofs.SetLaws.{find→}
+use Rattle.model.proofs.SoundLaws.{sound-settled, sound-creator, sound→, presents}
+use Rattle.model.specs.VoidLaws.{Struck as StruckEvent, EffectiveBy}
+use Rattle.model.proofs.VoidLaws.{effective_unique}
 use Rattle.model.specs.Store.{event_of, held_in}
-use Rattle.model.specs.Packing.{kind_other}
+use Rattle.model.proofs.Packing.{kind_other}
 use Rattle.store.specs.Tables.{slot_in}
 use Rattle.ordering.specs.Named.{place_by}
 use Rattle.ordering.specs.LevelLaws.{by_slot, own_place, creates, later}

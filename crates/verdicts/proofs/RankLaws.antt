@@ -7,8 +7,10 @@ use mathlib.Core.Logic.{⊎_elim}
 use mathlib.Core.List.Memᴰ
 use mathlib.Core.List.{List, [], ◌∷◌, Memᴰ}
 use lib.ListN.{length, get_or, take}
-use Rattle.lists.specs.Bytes.{Bytes, precedes→}
-use Rattle.lists.specs.Sorting.{Ascending, ascending_once, mem_get_d}
+use Rattle.lists.specs.Bytes.{Bytes}
+use Rattle.lists.proofs.Bytes.{precedes→}
+use Rattle.lists.specs.Sorting.{Ascending}
+use Rattle.lists.proofs.Sorting.{ascending_once, mem_get_d}
 use Rattle.ordering.specs.Order.{ranked}
 use Rattle.ordering.specs.OrderLaws.{ranked-ascending, earlier}
 use Rattle.verdicts.specs.Effects.{ByRank}

@@ -9,7 +9,8 @@ use lib.ListN.{length, get_or, take, length-take}
 use lib.Seq.{take-take, take_at}
 use Rattle.lists.specs.Bytes.{Bytes}
 use Rattle.lists.specs.Cases.{by_bool}
-use Rattle.lists.specs.Sorting.{Ascending, distinct_finer, ascending_distinct}
+use Rattle.lists.specs.Sorting.{Ascending}
+use Rattle.lists.proofs.Sorting.{distinct_finer, ascending_distinct}
 use Rattle.store.specs.Tables.{id_at}
 use Rattle.ordering.specs.Levels.{Low}
 use Rattle.ordering.specs.Order.{of_rank, ranked, Apart, Ordered}

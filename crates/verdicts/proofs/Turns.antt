@@ -11,7 +11,7 @@ use lib.ListN.{length, get_or, take, set}
 use lib.Seq.{take_all, get_or-set_same, get_or-set_other}
 use borrow.Author.Tests.{eqb-true, eq-eqb, ne_eqb}
 use Rattle.lists.specs.Cases.{by_bool, clash, and→, and←, or→, or←l, or←r}
-use Rattle.lists.specs.Sorting.{mem_get_d}
+use Rattle.lists.proofs.Sorting.{mem_get_d}
 use Rattle.tables.specs.Bits.{bit_at}
 use Rattle.tables.specs.Filling.{more→, more←, last, taken}
 use Rattle.authority.specs.Sound.{bit, bit_test}

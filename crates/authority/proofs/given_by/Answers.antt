@@ -1,4 +1,3 @@
-
 use Rattle.authority.proofs.given_by.Goals as goal
 
 pub returns-in-Create : goal.returns-in-Create

@@ -1,4 +1,3 @@
-
 use Rattle.authority.proofs.parent_sound.Goals as goal
 
 pub returns : goal.returns

@@ -1,4 +1,4 @@
-use Rattle.model.specs.Examples.{examples}
+use Rattle.model.proofs.Examples.{examples}
 use Rattle.claims.proofs.examples.Goals as goal
 
 pub returns : goal.returns

@@ -7,7 +7,7 @@ use Rattle.claims.proofs.fourth_schedule.Goals as goal
 pub returns : goal.returns
 unfolding padding_schedule next_word
 returns c m n = record {
-      long = schedule-length padding_block;
-      first = λ t h. padding_word m t n ∙ schedule_first (fourth_block m) t h;
-      next = schedule-next padding_block;
-    }
+  long = schedule-length padding_block;
+  first = λ t h. padding_word m t n ∙ schedule_first (fourth_block m) t h;
+  next = schedule-next padding_block;
+}

@@ -13,11 +13,11 @@ loop-k-init c = (search rules, search rules, refl)
 
 pub loop-k-preserved : goal.loop-k-preserved
 loop-k-preserved c = let a = c.args in (
-      omega arith,
-      simp length-set c.loop-k.invariant.1,
-      turn a.lengths.now c.loop-k.out c.loop-k.k _ _ (omega (arith, c.requires)) (omega arith) c.loop-k.invariant.2
-          c.high_byte.ensures c.low_byte.ensures,
-    )
+  omega arith,
+  simp length-set c.loop-k.invariant.1,
+  turn a.lengths.now c.loop-k.out c.loop-k.k _ _ (omega (arith, c.requires)) (omega arith) c.loop-k.invariant.2
+      c.high_byte.ensures c.low_byte.ensures,
+)
 
 pub returns : goal.returns
 returns c = let full : c.loop-k.k ≡ 256 = omega arith in

@@ -1,4 +1,3 @@
-
 use Rattle.sha256.proofs.round_at.Goals as goal
 
 pub returns : goal.returns

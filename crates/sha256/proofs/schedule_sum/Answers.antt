@@ -1,4 +1,3 @@
-
 use Rattle.sha256.proofs.schedule_sum.Goals as goal
 
 pub returns : goal.returns

@@ -1,4 +1,3 @@
-
 use Rattle.tally.proofs.bundle_with.Goals as goal
 
 pub returns : goal.returns

@@ -1,4 +1,3 @@
-
 use Rattle.tally.proofs.take_with.Goals as goal
 
 pub returns : goal.returns

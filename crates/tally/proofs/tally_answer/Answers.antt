@@ -4,11 +4,11 @@ use Rattle.tally.proofs.tally_answer.Goals as goal
 pub returns-in-Figures : goal.returns-in-Figures
 unfolding tallied
 returns-in-Figures c = rw (
-      c.in-Figures.is,
-      ← c.raise_by-in-Figures-2.ensures,
-      ← c.raise_by-in-Figures.ensures,
-      ← c.raise_by.ensures,
-    )
+  c.in-Figures.is,
+  ← c.raise_by-in-Figures-2.ensures,
+  ← c.raise_by-in-Figures.ensures,
+  ← c.raise_by.ensures,
+)
 
 pub returns-in-Refused : goal.returns-in-Refused
 unfolding tallied

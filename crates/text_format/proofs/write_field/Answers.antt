@@ -14,5 +14,8 @@ returns c = let a = c.args in
     let first = c.paste in
     let second = c.write_number in
     let whole = field-length a.word.now a.n in
-    let few = field_most a.word.now 4 a.n (omega arith) in record { written = field_behind a.out.now first.new.dst second.new.out a.word.now a.at (a.at + length a.word.now) a.n
-          first.ensures refl c.requires second.ensures.written; value = (omega arith, omega arith) }
+    let few = field_most a.word.now 4 a.n (omega arith) in record {
+      written = field_behind a.out.now first.new.dst second.new.out a.word.now a.at (a.at + length a.word.now) a.n
+          first.ensures refl c.requires second.ensures.written;
+      value = (omega arith, omega arith);
+    }

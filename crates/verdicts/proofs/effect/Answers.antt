@@ -13,11 +13,11 @@ returns c =
     record {
       value = c.digit.ensures ∙ ap bit c.has-kept.ensures;
       kept = elim c.if-kept.branch [
-        then-kept w ↦ rw w.keep-is
-        (narrowed-kept a.presented.now a.targets.now a.rows.now a.keep.now a.e (get_or a.presented.now a.e 0) refl
-        row.result met.new.rows row.ensures met.ensures (sym c.has-kept.ensures ∙ w.if-kept.true) w.strike.new.keep w.strike.ensures)
+        | then-kept w ↦ rw w.keep-is
+            (narrowed-kept a.presented.now a.targets.now a.rows.now a.keep.now a.e (get_or a.presented.now a.e 0) refl
+            row.result met.new.rows row.ensures met.ensures (sym c.has-kept.ensures ∙ w.if-kept.true) w.strike.new.keep w.strike.ensures)
         | else-kept w ↦ rw w.keep-is
-        (narrowed-void a.presented.now a.targets.now a.rows.now a.keep.now a.e (get_or a.presented.now a.e 0) refl
-        row.result met.new.rows row.ensures met.ensures (sym c.has-kept.ensures ∙ w.if-kept.false))
+            (narrowed-void a.presented.now a.targets.now a.rows.now a.keep.now a.e (get_or a.presented.now a.e 0) refl
+            row.result met.new.rows row.ensures met.ensures (sym c.has-kept.ensures ∙ w.if-kept.false))
       ];
     }

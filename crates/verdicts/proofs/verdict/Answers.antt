@@ -10,25 +10,25 @@ returns-then-entry-eq0 c = sym (rw (eq-eqb _ _ (sym c.entry.ensures ∙ c.if-ent
 pub returns-then-entry-ne1 : goal.returns-then-entry-ne1
 unfolding verdict_of
 returns-then-entry-ne1 c = sym (rw (
-      ne_eqb _ _ (λ z. c.if-entry-eq0.false (c.entry.ensures ∙ z)),
-      ne_eqb _ _
-          (λ z. c.if-entry-ne1.true (c.entry-2.ensures ∙ z)),
-    ))
+  ne_eqb _ _ (λ z. c.if-entry-eq0.false (c.entry.ensures ∙ z)),
+  ne_eqb _ _
+      (λ z. c.if-entry-ne1.true (c.entry-2.ensures ∙ z)),
+))
 
 pub returns-then-entry-eq1 : goal.returns-then-entry-eq1
 unfolding verdict_of
 returns-then-entry-eq1 c = sym (rw (
-      ne_eqb _ _ (λ z. c.if-entry-eq0.false (c.entry.ensures ∙ z)),
-      eq-eqb _ _
-          (sym c.entry-2.ensures ∙ c.if-entry-ne1.false),
-      eq-eqb _ _ (sym c.entry-3.ensures ∙ c.if-entry-eq1.true),
-    ))
+  ne_eqb _ _ (λ z. c.if-entry-eq0.false (c.entry.ensures ∙ z)),
+  eq-eqb _ _
+      (sym c.entry-2.ensures ∙ c.if-entry-ne1.false),
+  eq-eqb _ _ (sym c.entry-3.ensures ∙ c.if-entry-eq1.true),
+))
 
 pub returns-else-entry-eq1 : goal.returns-else-entry-eq1
 unfolding verdict_of
 returns-else-entry-eq1 c = sym (rw (
-      ne_eqb _ _ (λ z. c.if-entry-eq0.false (c.entry.ensures ∙ z)),
-      eq-eqb _ _
-          (sym c.entry-2.ensures ∙ c.if-entry-ne1.false),
-      ne_eqb _ _ (λ z. c.if-entry-eq1.false (c.entry-3.ensures ∙ z)),
-    ))
+  ne_eqb _ _ (λ z. c.if-entry-eq0.false (c.entry.ensures ∙ z)),
+  eq-eqb _ _
+      (sym c.entry-2.ensures ∙ c.if-entry-ne1.false),
+  ne_eqb _ _ (λ z. c.if-entry-eq1.false (c.entry-3.ensures ∙ z)),
+))

@@ -1,4 +1,3 @@
-
 use Rattle.event_ids.proofs.lanes.add_lane.Goals as goal
 
 pub returns : goal.returns

@@ -11,6 +11,6 @@ returns c =
     record {
       lengths = (last.lengths, made.lengths.1);
       each_lane = λ l h.
-      let end = rounds-whole (block_at l a.w.now) (schedule_at l first.new.w) (state_at l a.st.now) in
-      end (made.schedules l h) (made.states l h) (last.each_lane l h);
+          let end = rounds-whole (block_at l a.w.now) (schedule_at l first.new.w) (state_at l a.st.now) in
+          end (made.schedules l h) (made.states l h) (last.each_lane l h);
     }

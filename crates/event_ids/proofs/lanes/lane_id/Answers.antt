@@ -1,4 +1,3 @@
-
 use Rattle.event_ids.proofs.lanes.lane_id.Goals as goal
 
 pub returns : goal.returns

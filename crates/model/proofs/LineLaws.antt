@@ -10,8 +10,8 @@ use Rattle.lists.specs.Cases.{by_bool, by_option}
 use Rattle.model.specs.Events.{Id, Event, is_create}
 use Rattle.model.specs.Heights.{find_in, view, height, settled, ancestor}
 use Rattle.model.specs.Verdicts.{line_in, line}
-use Rattle.model.specs.HeightLaws.{settled→, settled←}
-use Rattle.model.specs.AncestryLaws.{steady, ancestor-creator, ancestor-height, ancestor_trans, OfAncestors, past_ind}
+use Rattle.model.proofs.HeightLaws.{settled→, settled←}
+use Rattle.model.proofs.AncestryLaws.{steady, ancestor-creator, ancestor-height, ancestor_trans, OfAncestors, past_ind}
 
 module _ (s : List Event) where
   in_presents : (k : ℕ) (i : Id) (e : Event) → find_in s i ≡ some e → ancestor (view s) i e.presented ≡ true

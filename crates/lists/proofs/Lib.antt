@@ -1,0 +1,5 @@
+pub mod Bytes
+pub mod Tests
+pub mod Sorting
+pub mod Once
+pub mod Counting

@@ -1,0 +1,13 @@
+pub mod Agreement
+pub mod LineLaws
+pub mod SoundLaws
+pub mod VoidLaws
+pub mod OrderLaws
+pub mod MapLaws
+pub mod Knowledge
+pub mod Examples
+pub mod SetLaws
+pub mod HeightLaws
+pub mod AncestryLaws
+pub mod StoreLaws
+pub mod Packing
