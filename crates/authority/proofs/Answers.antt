@@ -19,7 +19,7 @@ use Rattle.event.specs.Fields.{author_of, event_at}
 use Rattle.event.specs.Contents.{body_of, contents_of}
 use Rattle.model.specs.Events.{grants, revokes}
 use Rattle.model.specs.Verdicts.{given_by, has, within, right_for, covers_body}
-use Rattle.authority.specs.AuthorityLaws.{and-three}
+use Rattle.authority.proofs.AuthorityLaws.{and-three}
 use Rattle.authority.specs.Found.{ancestor_by, given_from, given_at, grant_in, target_by}
 use Rattle.authority.specs.Lines.{line_from}
 use Rattle.authority.specs.Sound.{parents_sound, permits_by, target_suits_at, sound_at, bit}

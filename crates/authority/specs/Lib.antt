@@ -2,4 +2,3 @@ pub mod Found
 pub mod Lines
 pub mod Sound
 pub mod PlaceLaws
-pub mod AuthorityLaws

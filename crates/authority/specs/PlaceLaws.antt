@@ -24,8 +24,11 @@ use Rattle.model.proofs.LineLaws.{line_presents, line_ends}
 use Rattle.model.specs.Store.{event_of, held_in}
 use Rattle.store.specs.Tables.{slot_in}
 use Rattle.ordering.specs.Named.{missing, no_place, place_by, named_place}
-use Rattle.ordering.specs.LevelLaws.{height_of, level_from, by_slot, Levelled, find_gap, entry_at, level_height}
-use Rattle.ordering.specs.Placed.{held_at, id_of, find_place, same_place, slot_place, settled_level, level_settled, level_low}
+use Rattle.ordering.specs.LevelLaws.{height_of, Levelled}
+use Rattle.ordering.proofs.LevelLaws.{entry_at}
+use Rattle.ordering.proofs.LevelLaws.{level_from, by_slot, find_gap, level_height}
+use Rattle.ordering.specs.Placed.{held_at, id_of}
+use Rattle.ordering.proofs.Placed.{find_place, same_place, slot_place, settled_level, level_settled, level_low}
 use Rattle.tables.specs.Bits.{bit_high}
 use Rattle.ancestry.specs.Ancestors.{AncestorBits}
 use Rattle.authority.specs.declared.Ancestor.TheVariants.{At, Nowhere}

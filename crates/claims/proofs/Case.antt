@@ -27,7 +27,7 @@ use Rattle.model.specs.Map.{machine, map_rows}
 use Rattle.model.specs.Examples.{map_computed}
 use Rattle.model.specs.Rows.{map_row, map_bytes}
 use Rattle.takes.specs.Takes.{stored, start_of}
-use Rattle.takes.specs.TakeLaws.{starts←}
+use Rattle.takes.proofs.TakeLaws.{starts←}
 use Rattle.call_lists.specs.Calls.{Lent, offers_of, offers, counted_events}
 use Rattle.reports.specs.Reports.{figures_of}
 use Rattle.claims.specs.Told.{set_view, Tells}

@@ -32,7 +32,8 @@ use Rattle.event.specs.Checks.{refusal}
 use Rattle.model.specs.Store.{places, store_good}
 use Rattle.model.proofs.StoreLaws.{checked→, checked_held, places_first}
 use Rattle.takes.specs.Takes.{stored, repeat, take_answer, after_take, counted, Run, step, run_of}
-use Rattle.takes.specs.TakeLaws.{Good, take_by_lem, take_answer_good, take_places, take-creator, take_keeps}
+use Rattle.takes.specs.TakeLaws.{Good}
+use Rattle.takes.proofs.TakeLaws.{take_by_lem, take_answer_good, take_places, take-creator, take_keeps}
 
 -- no two held places have one id
 pub held_distinct : (entry : ℕ → ℕ → ℕ) (store : Bytes) (count : ℕ) → store_good entry store count ≡ true

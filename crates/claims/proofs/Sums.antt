@@ -19,8 +19,10 @@ use Rattle.model.specs.Rows.{map_bytes}
 use Rattle.store.specs.LookUp.{store_long}
 use Rattle.bundles.specs.BundleCheck.{passes_8}
 use Rattle.takes.specs.Takes.{bundle_tests, bundle_of, run_of}
-use Rattle.takes.specs.TakeLaws.{number_in, fresh_run, total, figures_total}
-use Rattle.call_lists.specs.CallLaws.{takes_of, passes-left, left-passes}
+use Rattle.takes.specs.TakeLaws.{number_in, fresh_run, total}
+use Rattle.takes.proofs.TakeLaws.{figures_total}
+use Rattle.call_lists.specs.CallLaws.{takes_of}
+use Rattle.call_lists.proofs.CallLaws.{passes-left, left-passes}
 use Rattle.reports.specs.Reports.{held_view, write_tests, figures_of, map_of}
 use Rattle.claims.specs.Sums.{FiguresAddUp, JoinsAddUp, Check2Exact}
 

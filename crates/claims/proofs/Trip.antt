@@ -31,7 +31,8 @@ use Rattle.model.specs.Rows.{written_bytes}
 use Rattle.model.specs.Output.{overwritten}
 use Rattle.takes.specs.declared.Tally.{Tally}
 use Rattle.takes.specs.Takes.{Placed, stored, Left, Run, start_of, run_of, bundle_of}
-use Rattle.takes.specs.TakeLaws.{Good, starts←, start_held, start_creator, start_good, fresh_run, bundle-good, total, figures_total}
+use Rattle.takes.specs.TakeLaws.{Good, fresh_run, total}
+use Rattle.takes.proofs.TakeLaws.{starts←, start_held, start_creator, start_good, bundle-good, figures_total}
 use Rattle.call_lists.specs.Calls.{Fits, Lent, bundle, held_by, offers_of, offers, passes_beside, counted_events, after_call, after_calls}
 use Rattle.reports.specs.Reports.{Report, written_of}
 use Rattle.claims.specs.Told.{set_view, Tells}

@@ -23,7 +23,7 @@ use Rattle.model.specs.SetLaws.{DistinctIds}
 use Rattle.model.proofs.Agreement.{view_same}
 use Rattle.takes.specs.TakeLaws.{Good}
 use Rattle.call_lists.specs.Calls.{Fits, Lent, held_by, set_of}
-use Rattle.call_lists.specs.CallLaws.{set-held, calls_good}
+use Rattle.call_lists.proofs.CallLaws.{set-held, calls_good}
 use Rattle.reports.specs.Reports.{held_view, write_tests, report, figures_of, order_of, map_of, written_of, verdict_of}
 use Rattle.claims.specs.Told.{set_view, report_from, verdict_from, Tells}
 use Rattle.claims.specs.ThirdDemand.{Given, leaves, counts, Makes}

@@ -19,14 +19,16 @@ use Rattle.model.specs.Output.{overwritten}
 use Rattle.model.specs.Store.{held_in}
 use Rattle.cabling.specs.declared.Ran.{Ran}
 use Rattle.cabling.specs.Ports.{link_in}
-use Rattle.cabling.specs.Rows.{row_bytes, row-bytes_size, RowsWritten, map-bytes}
+use Rattle.cabling.specs.Rows.{row_bytes, RowsWritten}
+use Rattle.cabling.proofs.Rows.{row-bytes_size, map-bytes}
 use Rattle.text_format.specs.declared.Printed.{Printed}
 use Rattle.text_format.specs.Text.{room_text, text_of as textOfRows, answer_of, output_of, answer_of_printed}
 use Rattle.text_format.specs.RowLaws.{Octets, text_of_store}
 use Rattle.openers.specs.declared.LinkAnswer.{LinkAnswer}
 use Rattle.openers.specs.declared.LinkAnswer.TheVariants.{Linked, Refused}
 use Rattle.openers.specs.Opened.{held_view, store_tests, number_of_linked, LinkedTables, LinkedStore}
-use Rattle.reports.specs.AfterStoreTests.{passed_store, refused_early}
+use Rattle.reports.proofs.AfterStoreTests.{refused_early}
+use Rattle.reports.proofs.AfterStoreTests.{passed_store}
 use Rattle.reports.specs.Reports.{answered}
 use Rattle.reports.specs.HeldEntries.{held_entries}
 use Rattle.reports.specs.OpenedBytes.{entry_right}

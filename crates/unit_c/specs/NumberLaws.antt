@@ -12,7 +12,7 @@ use Rattle.model.specs.Rows.{order_bytes, map_bytes, written_bytes}
 use Rattle.store.specs.LookUp.{held_ids, look_up_tests, look_up_of}
 use Rattle.bundles.specs.FirstEvent.{first_tests, first_of}
 use Rattle.takes.specs.Takes.{start_tests, start_of, take_tests, take_answer, take_of, bundle_tests, bundle_of}
-use Rattle.takes.specs.TakeLaws.{take-answers}
+use Rattle.takes.proofs.TakeLaws.{take-answers}
 use Rattle.reports.specs.Reports.{held_view, write_tests, verdict_tests, report, order_of, map_of, written_of, verdict_of}
 use Rattle.text.specs.Text.{room_text, text_of}
 use Rattle.unit_c.specs.Numbers.{document_of, id_tests, id_of, ids_tests, ids_of}

@@ -34,12 +34,13 @@ use Rattle.model.specs.Store.{event_of, held_in}
 use Rattle.model.proofs.Packing.{kind_other}
 use Rattle.store.specs.Tables.{slot_in}
 use Rattle.ordering.specs.Named.{place_by}
-use Rattle.ordering.specs.LevelLaws.{by_slot, own_place, creates, later}
+use Rattle.ordering.proofs.LevelLaws.{by_slot, own_place, creates, later}
 use Rattle.ordering.specs.Order.{ranked}
 use Rattle.ordering.specs.OrderLaws.{ranked→, ranked←}
-use Rattle.ordering.specs.Placed.{held_at, id_of, place_of, held-at, one_id, slot_place, level_low, settled_in, in_settled}
+use Rattle.ordering.specs.Placed.{held_at, id_of}
+use Rattle.ordering.proofs.Placed.{place_of, held-at, one_id, slot_place, level_low, settled_in, in_settled}
 use Rattle.authority.specs.Lines.{Authority}
-use Rattle.authority.specs.AuthorityLaws.{revoke_other}
+use Rattle.authority.proofs.AuthorityLaws.{revoke_other}
 use Rattle.authority.specs.PlaceLaws.{Tables, few, found, level_is, level_of_lem, lower}
 use Rattle.verdicts.specs.Effects.{Within, Graded, Struck, Effects}
 use Rattle.tables.specs.Filling.{Filled}

@@ -15,7 +15,8 @@ use Rattle.store.specs.Tables.{id_at}
 use Rattle.ordering.specs.Levels.{Low}
 use Rattle.ordering.specs.Order.{of_rank, ranked, Apart, Ordered}
 use Rattle.ordering.specs.OrderLaws.{ranked-ascending, rank-rest}
-use Rattle.ordering.specs.Placed.{Settled, index_ascends, level_low, settled_in, in_settled, ordered}
+use Rattle.ordering.specs.Placed.{Settled}
+use Rattle.ordering.proofs.Placed.{index_ascends, level_low, settled_in, in_settled, ordered}
 use Rattle.tables.specs.Filling.{everywhere, Filled}
 use Rattle.ancestry.specs.Ancestors.{AncestorRows}
 use Rattle.ancestry.specs.AncestorLaws.{ancestor_bits}
@@ -23,7 +24,7 @@ use Rattle.authority.specs.Found.{NamedAncestors}
 use Rattle.authority.specs.Lines.{Authority}
 use Rattle.authority.specs.Sound.{SoundTable}
 use Rattle.authority.specs.PlaceLaws.{Tables}
-use Rattle.authority.specs.AuthorityLaws.{authority}
+use Rattle.authority.proofs.AuthorityLaws.{authority}
 use Rattle.verdicts.specs.Effects.{Within, ByRank, Graded, Effects}
 use Rattle.verdicts.specs.Verdicts.{rank_of, verdict_of, Judged}
 use Rattle.verdicts.proofs.RankLaws.{by_rank_lem}

@@ -4,7 +4,7 @@ use native.Mathlib.Omega.{arith}
 use native.Mathlib.Numerals.{add-one}
 use borrow.Author.Tests.{ne_eqb}
 use Rattle.cords.specs.Lent.{all_below, table_good}
-use Rattle.cords.specs.LentLaws.{table_once}
+use Rattle.cords.proofs.LentLaws.{table_once}
 use borrow.Author.Rules.{rules}
 use Rattle.cords.proofs.table_good.Goals as goal
 

@@ -28,24 +28,15 @@ use Rattle.model.proofs.Packing.{kind_other}
 use Rattle.store.specs.declared.Slot.TheVariants.{At as Held, Gap}
 use Rattle.store.specs.Tables.{slot_in}
 use Rattle.ordering.specs.Named.{no_place, place_by}
-use Rattle.ordering.specs.LevelLaws.{level_from, by_slot, second_parent, third_parent, Later, creates, later, entry_some, entry_none, first_some, levels_heights}
-use Rattle.ordering.specs.Placed.{held_at, id_of, slot_place}
+use Rattle.ordering.specs.LevelLaws.{Later}
+use Rattle.ordering.proofs.LevelLaws.{entry_some, entry_none, first_some}
+use Rattle.ordering.proofs.LevelLaws.{level_from, by_slot, second_parent, third_parent, creates, later, levels_heights}
+use Rattle.ordering.specs.Placed.{held_at, id_of}
+use Rattle.ordering.proofs.Placed.{slot_place}
 use Rattle.authority.specs.Found.{given_at, grant_in, given_grant}
 use Rattle.authority.specs.Lines.{Authority}
 use Rattle.authority.specs.Sound.{parent_sound, parents_sound, permits_by, target_suits_at, sound_at, bit_test, SoundTable}
-use Rattle.authority.specs.PlaceLaws.{
-  Tables,
-  AncestorAt,
-  few,
-  found,
-  level_is,
-  settled_at,
-  level_of_lem,
-  by_presented,
-  by_target,
-  no_target,
-  target_is,
-}
+use Rattle.authority.specs.PlaceLaws.{Tables, AncestorAt, few, found, level_is, settled_at, level_of_lem, by_presented, by_target, no_target, target_is}
 
 -- three tests, as a list's tests are put together
 pub and-three : (a b c : Bool) → (a && b && c) ≡ (a && (b && (c && true)))
