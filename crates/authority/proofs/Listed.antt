@@ -13,7 +13,7 @@ use Rattle.lists.specs.Bytes.{Bytes}
 use Rattle.lists.specs.Cases.{by_bool}
 use Rattle.lists.proofs.Sorting.{mem_get_d}
 use Rattle.ordering.specs.Order.{Ordered}
-use Rattle.ordering.specs.OrderLaws.{parents_listed}
+use Rattle.ordering.proofs.OrderLaws.{parents_listed}
 use Rattle.tables.specs.Filling.{more→, more←, last}
 use Rattle.authority.specs.Found.{ancestor_by, ancestor_place, target_by, NamedAncestors}
 use Rattle.authority.specs.Sound.{parents_sound, sound_at, bit, SoundTable}

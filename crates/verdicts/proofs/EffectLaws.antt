@@ -36,7 +36,7 @@ use Rattle.store.specs.Tables.{slot_in}
 use Rattle.ordering.specs.Named.{place_by}
 use Rattle.ordering.proofs.LevelLaws.{by_slot, own_place, creates, later}
 use Rattle.ordering.specs.Order.{ranked}
-use Rattle.ordering.specs.OrderLaws.{ranked→, ranked←}
+use Rattle.ordering.proofs.OrderLaws.{ranked→, ranked←}
 use Rattle.ordering.specs.Placed.{held_at, id_of}
 use Rattle.ordering.proofs.Placed.{place_of, held-at, one_id, slot_place, level_low, settled_in, in_settled}
 use Rattle.authority.specs.Lines.{Authority}

@@ -12,7 +12,7 @@ use Rattle.lists.proofs.Bytes.{precedes→}
 use Rattle.lists.specs.Sorting.{Ascending}
 use Rattle.lists.proofs.Sorting.{ascending_once, mem_get_d}
 use Rattle.ordering.specs.Order.{ranked}
-use Rattle.ordering.specs.OrderLaws.{ranked-ascending, earlier}
+use Rattle.ordering.proofs.OrderLaws.{ranked-ascending, earlier}
 use Rattle.verdicts.specs.Effects.{ByRank}
 
 module _ (R l : List ℕ) (key : ℕ → Bytes) (sorted : Ascending key l) where

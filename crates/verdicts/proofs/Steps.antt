@@ -14,7 +14,8 @@ use Rattle.lists.proofs.Sorting.{distinct_finer, ascending_distinct}
 use Rattle.store.specs.Tables.{id_at}
 use Rattle.ordering.specs.Levels.{Low}
 use Rattle.ordering.specs.Order.{of_rank, ranked, Apart, Ordered}
-use Rattle.ordering.specs.OrderLaws.{ranked-ascending, rank-rest}
+use Rattle.ordering.proofs.OrderLaws.{ranked-ascending}
+use Rattle.ordering.proofs.OrderLaws.{rank-rest}
 use Rattle.ordering.specs.Placed.{Settled}
 use Rattle.ordering.proofs.Placed.{index_ascends, level_low, settled_in, in_settled, ordered}
 use Rattle.tables.specs.Filling.{everywhere, Filled}

@@ -1,11 +1,10 @@
 use native.Mathlib.Omega.{arith}
-use mathlib.Core.Path.{◌∙◌}
 use Rattle.authority.proofs.Listed.{sound_none, sound_low, sound_more, sound_all}
 use borrow.Author.Rules.{Fits-under}
 use Rattle.authority.proofs.authorize.Goals as goal
 
 pub loop-i-init : goal.loop-i-init
-loop-i-init c = sound_none _ _ _ _ _ _ c.requires (c.clear.auto.table ∙ c.clear-arg-1.given.0.1) c.clear.ensures
+loop-i-init c = sound_none _ _ _ _ _ _ c.requires (omega arith) c.clear.ensures
 
 pub sound_at-s-requires : goal.sound_at-s-requires
 sound_at-s-requires c = sound_low _ _ _ _ _ _ _ c.loop-i.invariant c.loop-i-test.true

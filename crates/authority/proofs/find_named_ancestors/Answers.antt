@@ -6,8 +6,8 @@ use borrow.Author.Rules.{Fits-under}
 use Rattle.authority.proofs.find_named_ancestors.Goals as goal
 
 pub loop-i-init : goal.loop-i-init
-loop-i-init c = named_none _ _ _ _ _ _ c.requires (c.clear.auto.table ∙ c.clear-arg-1.given.0.1)
-    (c.clear-2.auto.table ∙ c.clear-arg-2-1.given.0.1)
+loop-i-init c = named_none _ _ _ _ _ _ c.requires (omega arith)
+    (omega arith)
 
 pub find_ancestor-requires : goal.find_ancestor-requires
 find_ancestor-requires c = let low = named_low _ _ _ _ _ _ _ c.loop-i.invariant c.loop-i-test.true in

@@ -1,13 +1,13 @@
 use native.Mathlib.Omega.{arith}
-use mathlib.Core.Path.{◌∙◌}
-use lib.ListN.{get_or, length-set}
+use mathlib.Core.Path.{◌≡◌, ◌∙◌}
+use lib.ListN.{length, get_or, length-set}
 use Rattle.verdicts.proofs.Turns.{next-within, turn_start, turn_again, turn_end}
 use borrow.Author.Rules.{Fits-under}
 use Rattle.verdicts.proofs.find_effects.Goals as goal
 
 pub loop-i-init : goal.loop-i-init
 loop-i-init c = let a = c.args in
-    let size = c.clear.auto.table ∙ c.clear-arg-1.given.0.1 in (
+    let size : length c.clear.new.table ≡ 256 = omega arith in (
       length-set c.clear.new.table 0 1 ∙ size,
       c.requires,
       λ on rank graded sorted.

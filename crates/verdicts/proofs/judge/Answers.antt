@@ -1,5 +1,5 @@
 use native.Mathlib.Omega.{arith}
-use Rattle.ordering.specs.OrderLaws.{rank_few}
+use Rattle.ordering.proofs.OrderLaws.{rank_few}
 use Rattle.verdicts.proofs.Steps.{behind_parents, places_apart, few_places, rank_low, fits, judged}
 use Rattle.verdicts.proofs.judge.Goals as goal
 
@@ -30,7 +30,6 @@ put_rank-requires c = omega (
   arith,
   rank_few c.find_verdicts.new.verdicts c.args.order.now 3
       (few_places c.requires),
-  c.put_rank-arg-3-1.given.0.1,
 )
 
 pub returns : goal.returns
@@ -38,8 +37,8 @@ returns c = record {
   judged = judged c.requires c.ancestors.ensures c.find_named_ancestors.ensures c.authorize.ensures
       c.find_ranks.auto.ranks c.find_ranks.ensures c.by_rank-count.new.out _ c.by_rank-count.result
       c.by_rank-count.ensures.value c.by_rank-count.ensures.written c.front.ensures
-      c.find_verdicts-arg-1.given.0.1 c.find_effects.ensures c.find_verdicts.ensures;
-  long = omega (arith, c.find_verdicts.auto, c.find_verdicts-arg-1.given.0.1);
+      (omega arith) c.find_effects.ensures c.find_verdicts.ensures;
+  long = omega (arith, c.find_verdicts.auto);
   few = omega (
     arith,
     c.put_rank.ensures.value,
