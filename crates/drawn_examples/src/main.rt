@@ -2,16 +2,16 @@
 
 #![tactic(auto)]
 
-use libc::STDOUT_FILENO;
+use std::io;
 use takes::{BundleAnswer, TakeAnswer, Taken, Tally};
 
-fn main() {
-    full_store();
-    empty_bundle();
+fn main(rt: HostRuntime) -> io::Result<()> {
+    full_store(&rt)?;
+    empty_bundle(&rt)
 }
 
 // "256 held: a held event answers repeat, a new one 7."
-fn full_store() {
+fn full_store(rt: &impl Print) -> io::Result<()> {
     let creator = [0u8; 192];
     let table = cords::document_table();
     let mut store = [0u8; 49152];
@@ -23,34 +23,32 @@ fn full_store() {
         count = taken.count;
         port += 1;
     }
-    io::write_all(STDOUT_FILENO, b"10: held ");
-    io::print_decimal(STDOUT_FILENO, count as u64);
-    io::write_all(STDOUT_FILENO, b"\n10: a held event: ");
+    println!(rt; "10: held {count}")?;
+    print!(rt; "10: a held event: ")?;
     let held = offer(&mut store, count, 200);
     let answer = held.answer;
-    say(answer);
-    io::write_all(STDOUT_FILENO, b"10: a new event: ");
+    say(rt, answer)?;
+    print!(rt; "10: a new event: ")?;
     let new = offer(&mut store, count, 255);
     let refused = new.answer;
-    say(refused);
+    say(rt, refused)
 }
 
 // "A bundle of count 0 is 12 bytes and offers nothing."
-fn empty_bundle() {
+fn empty_bundle(rt: &impl Print) -> io::Result<()> {
     let creator = [0u8; 192];
     let table = cords::document_table();
     let mut store = [0u8; 49152];
     let started = takes::start(&mut store, &table, &creator);
-    io::write_all(STDOUT_FILENO, b"11: a bundle of count 0: ");
+    print!(rt; "11: a bundle of count 0: ")?;
     let taken = takes::take_bundle(&mut store, started.count, &table, b"\0\0\0\0\0\0\0\0BACK");
     let answer = taken.answer;
     match answer {
-        BundleAnswer::Figures(figures) => say_figures(figures),
-        BundleAnswer::Refused(refusal) => say_refusal(event::number(refusal)),
+        BundleAnswer::Figures(figures) => say_figures(rt, figures)?,
+        BundleAnswer::Refused(refusal) => say_refusal(rt, event::number(refusal))?,
     }
-    io::write_all(STDOUT_FILENO, b"11: held ");
-    io::print_decimal(STDOUT_FILENO, taken.count as u64);
-    io::write_all(STDOUT_FILENO, b"\n");
+    let count = taken.count;
+    println!(rt; "11: held {count}")
 }
 
 // Takes the unplug of a port.
@@ -70,30 +68,23 @@ fn unplug(port: u16) -> [u8; 192] {
     e
 }
 
-fn say(answer: TakeAnswer) {
+fn say(rt: &impl Print, answer: TakeAnswer) -> io::Result<()> {
     match answer {
-        TakeAnswer::Stored => {
-            io::write_all(STDOUT_FILENO, b"stored\n");
-        }
-        TakeAnswer::Repeat => {
-            io::write_all(STDOUT_FILENO, b"repeat\n");
-        }
-        TakeAnswer::Refused(refusal) => say_refusal(event::number(refusal)),
+        TakeAnswer::Stored => println!(rt; "stored"),
+        TakeAnswer::Repeat => println!(rt; "repeat"),
+        TakeAnswer::Refused(refusal) => say_refusal(rt, event::number(refusal)),
     }
 }
 
-fn say_figures(figures: Tally) {
-    io::write_all(STDOUT_FILENO, b"figures ");
-    io::print_decimal(STDOUT_FILENO, figures.new as u64);
-    io::write_all(STDOUT_FILENO, b" ");
-    io::print_decimal(STDOUT_FILENO, figures.repeats as u64);
-    io::write_all(STDOUT_FILENO, b" ");
-    io::print_decimal(STDOUT_FILENO, figures.refused as u64);
-    io::write_all(STDOUT_FILENO, b"\n");
+fn say_figures(rt: &impl Print, figures: Tally) -> io::Result<()> {
+    let Tally {
+        new,
+        repeats,
+        refused,
+    } = figures;
+    println!(rt; "figures {new} {repeats} {refused}")
 }
 
-fn say_refusal(number: u8) {
-    io::write_all(STDOUT_FILENO, b"refused ");
-    io::print_decimal(STDOUT_FILENO, number as u64);
-    io::write_all(STDOUT_FILENO, b"\n");
+fn say_refusal(rt: &impl Print, number: u8) -> io::Result<()> {
+    println!(rt; "refused {number}")
 }

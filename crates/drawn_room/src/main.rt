@@ -3,11 +3,11 @@
 
 #![tactic(auto)]
 
-use libc::STDOUT_FILENO;
+use std::io;
 use unit::{BundleAnswer, CountAnswer, MapAnswer, Tally, VerdictAnswer};
 
 // Member 1's grant a, member 2's grant b, the join j, the revokes r1 of b and r2 of a; C is the creator by member 0.
-fn main() {
+fn main(rt: HostRuntime) -> io::Result<()> {
     let c = [0u8; 192];
     let a = grant(0, 1, &c, &c);
     let b = grant(1, 2, &a, &a);
@@ -21,14 +21,14 @@ fn main() {
     let with_b = take(&mut store, with_a, &table, &b);
     let with_j = take(&mut store, with_b, &table, &j);
     let with_r1 = take(&mut store, with_j, &table, &r1);
-    verdict(&store, with_r1, &table, &j, b"5: j ");
+    verdict(&rt, &store, with_r1, &table, &j, "5: j ")?;
     let with_r2 = take(&mut store, with_r1, &table, &r2);
-    verdict(&store, with_r2, &table, &r1, b"6: r1 ");
-    verdict(&store, with_r2, &table, &j, b"6: j ");
-    order_and_map(&store, with_r2, &table);
-    held(&store, with_r2, &table, &j);
-    short_table(&store, with_r2, &table);
-    carry_over(&store, with_r2, &table, &j);
+    verdict(&rt, &store, with_r2, &table, &r1, "6: r1 ")?;
+    verdict(&rt, &store, with_r2, &table, &j, "6: j ")?;
+    order_and_map(&rt, &store, with_r2, &table)?;
+    held(&rt, &store, with_r2, &table, &j)?;
+    short_table(&rt, &store, with_r2, &table)?;
+    carry_over(&rt, &store, with_r2, &table, &j)
 }
 
 // The count after a take.
@@ -73,61 +73,93 @@ fn join(author: u8, under: &[u8; 192], parent: &[u8; 192]) -> [u8; 192] {
     e
 }
 
-fn verdict(store: &[u8; 49152], count: usize, table: &[u8; 512], e: &[u8; 192], name: &[u8]) {
-    io::write_all(STDOUT_FILENO, name);
+fn verdict(
+    rt: &impl Print,
+    store: &[u8; 49152],
+    count: usize,
+    table: &[u8; 512],
+    e: &[u8; 192],
+    name: &str,
+) -> io::Result<()> {
+    print!(rt; "{name}")?;
     match unit::verdict(store, count, table, &sha256::event_id(e)) {
-        VerdictAnswer::Verdict(shown) => say(shown as usize),
-        VerdictAnswer::Refused(refusal) => say_refusal(unit::number(refusal)),
+        VerdictAnswer::Verdict(shown) => say(rt, shown as usize)?,
+        VerdictAnswer::Refused(refusal) => say_refusal(rt, unit::number(refusal))?,
     }
-    io::write_all(STDOUT_FILENO, b"\n");
+    println!(rt)
 }
 
 // The number of rows of the order; rows, ended and joins of the map.
-fn order_and_map(store: &[u8; 49152], count: usize, table: &[u8; 512]) {
+fn order_and_map(
+    rt: &impl Print,
+    store: &[u8; 49152],
+    count: usize,
+    table: &[u8; 512],
+) -> io::Result<()> {
     let mut out = [0u8; 216];
-    io::write_all(STDOUT_FILENO, b"order ");
-    say_count(unit::order(store, count, table, &mut out));
-    io::write_all(STDOUT_FILENO, b"map ");
+    print!(rt; "order ")?;
+    say_count(rt, unit::order(store, count, table, &mut out))?;
+    print!(rt; "map ")?;
     match unit::map(store, count, table, &mut out) {
         MapAnswer::Map(figures) => {
-            say(figures.rows);
-            io::write_all(STDOUT_FILENO, b" ");
-            say(figures.ended);
-            io::write_all(STDOUT_FILENO, b" ");
-            say(figures.joins);
+            say(rt, figures.rows)?;
+            print!(rt; " ")?;
+            say(rt, figures.ended)?;
+            print!(rt; " ")?;
+            say(rt, figures.joins)?;
         }
-        MapAnswer::Refused(refusal) => say_refusal(unit::number(refusal)),
+        MapAnswer::Refused(refusal) => say_refusal(rt, unit::number(refusal))?,
     }
-    io::write_all(STDOUT_FILENO, b"\n");
+    println!(rt)
 }
 
 // How many bytes of the store the look-up gives back: an event's.
-fn held(store: &[u8; 49152], count: usize, table: &[u8; 512], e: &[u8; 192]) {
+fn held(
+    rt: &impl Print,
+    store: &[u8; 49152],
+    count: usize,
+    table: &[u8; 512],
+    e: &[u8; 192],
+) -> io::Result<()> {
     let mut number: u8 = 255;
-    io::write_all(STDOUT_FILENO, b"look-up ");
+    print!(rt; "look-up ")?;
     let part = unit::look_up(store, count, table, &sha256::event_id(e), &mut number);
-    say(part.len());
-    io::write_all(STDOUT_FILENO, b" number ");
-    say(number as usize);
-    io::write_all(STDOUT_FILENO, b"\n");
+    say(rt, part.len())?;
+    print!(rt; " number ")?;
+    say(rt, number as usize)?;
+    println!(rt)
 }
 
 // A cord table of 511 bytes is refused.
-fn short_table(store: &[u8; 49152], count: usize, table: &[u8; 512]) {
+fn short_table(
+    rt: &impl Print,
+    store: &[u8; 49152],
+    count: usize,
+    table: &[u8; 512],
+) -> io::Result<()> {
     let mut out = [0u8; 216];
-    io::write_all(STDOUT_FILENO, b"a table of 511 bytes: ");
-    say_count(unit::order(store, count, octets::part(table, 0, 511), &mut out));
+    print!(rt; "a table of 511 bytes: ")?;
+    say_count(
+        rt,
+        unit::order(store, count, octets::part(table, 0, 511), &mut out),
+    )
 }
 
 // Writes the events out as a bundle, starts a fresh unit with its first event, gives it one event, then the bundle, both with a tally,
 // and writes its text.
-fn carry_over(store: &[u8; 49152], count: usize, table: &[u8; 512], e: &[u8; 192]) {
+fn carry_over(
+    rt: &impl Print,
+    store: &[u8; 49152],
+    count: usize,
+    table: &[u8; 512],
+    e: &[u8; 192],
+) -> io::Result<()> {
     let mut bundle = [0u8; 1164];
     let mut fresh = [0u8; 49152];
     let mut number: u8 = 255;
     let mut out = [0u8; 57];
-    io::write_all(STDOUT_FILENO, b"write-out ");
-    say_count(unit::write_out(store, count, table, &mut bundle));
+    print!(rt; "write-out ")?;
+    say_count(rt, unit::write_out(store, count, table, &mut bundle))?;
     let creator = unit::first_event(&bundle, &mut number);
     let started = unit::start(&mut fresh, table, creator);
     let none = Tally {
@@ -139,41 +171,43 @@ fn carry_over(store: &[u8; 49152], count: usize, table: &[u8; 512], e: &[u8; 192
     let one = first.taken;
     let counted = tally::bundle_with(&mut fresh, one.count, table, &bundle, first.tally);
     let taken = counted.taken;
-    let answer = taken.answer;
-    io::write_all(STDOUT_FILENO, b"bundle ");
+    print!(rt; "bundle ")?;
+    say_bundle(rt, taken.answer)?;
+    print!(rt; "tally ")?;
+    say_figures(rt, counted.tally)?;
+    print!(rt; "text ")?;
+    say_count(rt, unit::text(&fresh, taken.count, table, &mut out))?;
+    rt.write_all(&out)
+}
+
+fn say(rt: &impl Print, n: usize) -> io::Result<()> {
+    print!(rt; "{n}")
+}
+
+fn say_refusal(rt: &impl Print, number: u8) -> io::Result<()> {
+    print!(rt; "refused {number}")
+}
+
+fn say_count(rt: &impl Print, answer: CountAnswer) -> io::Result<()> {
     match answer {
-        BundleAnswer::Figures(figures) => say_figures(figures),
-        BundleAnswer::Refused(refusal) => say_refusal(unit::number(refusal)),
+        CountAnswer::Count(n) => say(rt, n)?,
+        CountAnswer::Refused(refusal) => say_refusal(rt, unit::number(refusal))?,
     }
-    io::write_all(STDOUT_FILENO, b"tally ");
-    say_figures(counted.tally);
-    io::write_all(STDOUT_FILENO, b"text ");
-    say_count(unit::text(&fresh, taken.count, table, &mut out));
-    io::write_all(STDOUT_FILENO, &out);
+    println!(rt)
 }
 
-fn say(n: usize) {
-    io::print_decimal(STDOUT_FILENO, n as u64);
-}
-
-fn say_refusal(number: u8) {
-    io::write_all(STDOUT_FILENO, b"refused ");
-    io::print_decimal(STDOUT_FILENO, number as u64);
-}
-
-fn say_count(answer: CountAnswer) {
+fn say_bundle(rt: &impl Print, answer: BundleAnswer) -> io::Result<()> {
     match answer {
-        CountAnswer::Count(n) => say(n),
-        CountAnswer::Refused(refusal) => say_refusal(unit::number(refusal)),
+        BundleAnswer::Figures(figures) => say_figures(rt, figures),
+        BundleAnswer::Refused(refusal) => say_refusal(rt, unit::number(refusal)),
     }
-    io::write_all(STDOUT_FILENO, b"\n");
 }
 
-fn say_figures(figures: Tally) {
-    say(figures.new as usize);
-    io::write_all(STDOUT_FILENO, b" ");
-    say(figures.repeats as usize);
-    io::write_all(STDOUT_FILENO, b" ");
-    say(figures.refused as usize);
-    io::write_all(STDOUT_FILENO, b"\n");
+fn say_figures(rt: &impl Print, figures: Tally) -> io::Result<()> {
+    say(rt, figures.new as usize)?;
+    print!(rt; " ")?;
+    say(rt, figures.repeats as usize)?;
+    print!(rt; " ")?;
+    say(rt, figures.refused as usize)?;
+    println!(rt)
 }

@@ -1,1 +1,2 @@
 pub mod FirstEvent
+pub mod Long

@@ -6,7 +6,9 @@
 ghost use Rattle.std.specs.Prelude.{◌≡◌, ◌≤◌, length, take};
 ghost use Rattle.print_program.specs.Page.{held_page, taken_page, started_page, page_of};
 
-use libc::STDOUT_FILENO;
+use std::fs::File;
+use std::io::{self, Read};
+use std::rt::Files;
 use unit::{CountAnswer, TakeAnswer};
 
 // What was read of a file: so many bytes, or that a read failed.
@@ -74,6 +76,7 @@ fn write_started(file: &[u8], first: &[u8], store: &mut [u8], table: &[u8], out:
 
 // Writes what the program writes for a room.bun of these bytes to the front of the output; answers how many bytes that is.
 // The store is room to work in. Each call is lent document 01's cord table.
+#[tactic(auto, using(crate::proofs::Long::long_refused))]
 pub fn page(file: &[u8], store: &mut [u8], out: &mut [u8]) -> usize
     requires { 12 ≤ length out.old }
     ensures { take result out.new ≡ page_of file.now store.old out.old }
@@ -91,51 +94,48 @@ pub fn page(file: &[u8], store: &mut [u8], out: &mut [u8]) -> usize
 }
 
 // Writes the line of a refusal.
-fn refuse(number: u8) {
+fn refuse(rt: &impl Print, number: u8) -> io::Result<()> {
     let mut line = [0u8; 12];
     let n = text_format::refusal_line(number, &mut line);
-    io::write_all(STDOUT_FILENO, octets::part(&line, 0, n));
+    rt.write_all(octets::part(&line, 0, n))
 }
 
 // Writes the page of the file's bytes. The text of 256 events is never longer than the area.
-fn print_bytes(file: &[u8]) {
+fn print_bytes(rt: &impl Print, file: &[u8]) -> io::Result<()> {
     let mut store = store_area();
     let mut out = text_area();
     let n = page(file, &mut store, &mut out);
-    io::write_all(STDOUT_FILENO, octets::part(&out, 0, n));
+    rt.write_all(octets::part(&out, 0, n))
 }
 
 // Reads to the end of a file, or until the buffer is full. A read that fails is not taken for the end; one that a signal interrupts
 // fails too.
-fn read_file(fd: i32, buf: &mut [u8]) -> FileRead {
+fn read_file(file: &mut impl Read, buf: &mut [u8]) -> FileRead {
     let mut done = 0;
     while done < buf.len() {
-        let got = libc::read(fd, &mut buf[done..]);
-        if got < 0 {
-            return FileRead::Failed;
+        match file.read(&mut buf[done..]) {
+            Ok(0) => return FileRead::Bytes(done),
+            Ok(more) => done += more,
+            Err(_) => return FileRead::Failed,
         }
-        let more = io::count(got, &buf[done..]);
-        if more == 0 {
-            return FileRead::Bytes(done);
-        }
-        done += more;
     }
     FileRead::Bytes(done)
 }
 
+// Opens room.bun and reads it. The file is closed before anything is written.
+fn read_room(rt: &impl Files, buf: &mut [u8]) -> FileRead {
+    match File::open(rt, "room.bun") {
+        Ok(mut file) => read_file(&mut file, buf),
+        Err(_) => FileRead::Failed,
+    }
+}
+
 // A file that is absent or cannot be read to its end is refused here: a part of a room is not printed for the whole. Of a file one
 // byte more than the limit is read at most, by which `page` tells a longer one.
-pub fn print() {
-    let fd = os::open_read(b"room.bun");
-    if fd < 0 {
-        refuse(8);
-        return;
-    }
+pub fn print(rt: &(impl Files + Print)) -> io::Result<()> {
     let mut file = file_area();
-    let read = read_file(fd, &mut file);
-    libc::close(fd);
-    match read {
-        FileRead::Bytes(n) => print_bytes(octets::part(&file, 0, n)),
-        FileRead::Failed => refuse(8),
+    match read_room(rt, &mut file) {
+        FileRead::Bytes(n) => print_bytes(rt, octets::part(&file, 0, n)),
+        FileRead::Failed => refuse(rt, 8),
     }
 }

@@ -2,6 +2,8 @@
 
 #![tactic(auto)]
 
-fn main() {
-    print_program::print();
+use std::io;
+
+fn main(rt: HostRuntime) -> io::Result<()> {
+    print_program::print(&rt)
 }

@@ -2,6 +2,8 @@
 
 #![tactic(auto)]
 
-fn main() {
-    replaying::drive();
+use std::io;
+
+fn main(rt: HostRuntime) -> io::Result<()> {
+    replaying::drive(&rt)
 }

@@ -5,34 +5,38 @@
 
 ghost use Rattle.std.specs.Prelude.{◌<◌, ◌≤◌, length};
 
-use libc::STDOUT_FILENO;
+use std::io;
 
-fn main() {
-    standard_examples();
+fn main(rt: HostRuntime) -> io::Result<()> {
+    standard_examples(&rt)?;
     let text = text();
-    lengths(&text, 0, 3);
-    lengths(&text, 54, 66);
-    lengths(&text, 118, 130);
-    lengths(&text, 190, 194);
-    lengths(&text, 255, 258);
-    event(&text[0..191]);
-    event(&text[0..192]);
-    event(&text[0..193]);
+    lengths(&rt, &text, 0, 3)?;
+    lengths(&rt, &text, 54, 66)?;
+    lengths(&rt, &text, 118, 130)?;
+    lengths(&rt, &text, 190, 194)?;
+    lengths(&rt, &text, 255, 258)?;
+    event(&rt, &text[0..191])?;
+    event(&rt, &text[0..192])?;
+    event(&rt, &text[0..193])?;
     let full = events(192);
-    tables(&full, 9);
-    table(&full[0..1060], 9);
+    tables(&rt, &full, 9)?;
+    table(&rt, &full[0..1060], 9)?;
     let short = events(128);
-    table(&short, 9);
+    table(&rt, &short, 9)
 }
 
 // The examples that NIST gives with FIPS 180-4.
-fn standard_examples() {
-    digest(b"");
-    digest(b"abc");
-    digest(b"abcdbcdecdefdefgefghfghighijhijkijkljklmklmnlmnomnopnopq");
+fn standard_examples(rt: &impl Print) -> io::Result<()> {
+    digest(rt, b"")?;
+    digest(rt, b"abc")?;
     digest(
+        rt,
+        b"abcdbcdecdefdefgefghfghighijhijkijkljklmklmnlmnomnopnopq",
+    )?;
+    digest(
+        rt,
         b"abcdefghbcdefghicdefghijdefghijkefghijklfghijklmghijklmnhijklmnoijklmnopjklmnopqklmnopqrlmnopqrsmnopqrstnopqrstu",
-    );
+    )
 }
 
 // The message of which `lengths` takes the first n bytes.
@@ -47,25 +51,26 @@ fn text() -> [u8; 258] {
 }
 
 // The digest of the first n bytes of text, for each n from first to last.
-fn lengths(text: &[u8], first: usize, last: usize)
+fn lengths(rt: &impl Print, text: &[u8], first: usize, last: usize) -> io::Result<()>
     requires { last ≤ length text.now }
 {
     let mut n = first;
     while n <= last {
-        digest(&text[..n]);
+        digest(rt, &text[..n])?;
         n += 1;
     }
+    Ok(())
 }
 
-fn digest(message: &[u8]) {
+fn digest(rt: &impl Print, message: &[u8]) -> io::Result<()> {
     let digest = sha256::digest(message);
-    show(message.len(), &digest);
+    show(rt, message.len(), &digest)
 }
 
-fn event(message: &[u8]) {
-    io::write_all(STDOUT_FILENO, b"event ");
+fn event(rt: &impl Print, message: &[u8]) -> io::Result<()> {
+    print!(rt; "event ")?;
     let id = sha256::event_id(message);
-    show(message.len(), &id);
+    show(rt, message.len(), &id)
 }
 
 // Nine events, no two the same. From the byte n on each is zeros, but the fifth.
@@ -90,37 +95,39 @@ fn event_byte(i: usize, n: usize) -> u8
 }
 
 // The tables of the ids of the first n events, for each n from 0 to last.
-fn tables(events: &[u8], last: usize)
+fn tables(rt: &impl Print, events: &[u8], last: usize) -> io::Result<()>
     requires { last ≤ 9 }
 {
     let mut n = 0;
     while n <= last {
-        table(events, n);
+        table(rt, events, n)?;
         n += 1;
     }
+    Ok(())
 }
 
 // The table of n ids, made at once, and the entry behind them, which stays zero.
-fn table(events: &[u8], n: usize)
+fn table(rt: &impl Print, events: &[u8], n: usize) -> io::Result<()>
     requires { n ≤ 9 }
 {
     let mut ids = [0u8; 320];
     event_ids::find_ids(events, n, &mut ids);
     let mut i = 0;
     while i <= n {
-        io::write_all(STDOUT_FILENO, b"ids ");
-        show(n, octets::part(&ids, i * 32, 32));
+        print!(rt; "ids ")?;
+        show(rt, n, octets::part(&ids, i * 32, 32))?;
         i += 1;
     }
+    Ok(())
 }
 
-fn show(number: usize, bytes: &[u8]) {
-    io::print_decimal(STDOUT_FILENO, number as u64);
-    io::write_all(STDOUT_FILENO, b" ");
+fn show(rt: &impl Print, number: usize, bytes: &[u8]) -> io::Result<()> {
+    print!(rt; "{number} ")?;
     let mut i = 0;
     while i < bytes.len() {
-        io::print_hex(STDOUT_FILENO, octets::byte(bytes, i) as u64, 2);
+        let byte = octets::byte(bytes, i);
+        print!(rt; "{byte:02x}")?;
         i += 1;
     }
-    io::write_all(STDOUT_FILENO, b"\n");
+    print!(rt; "\n")
 }

@@ -1,0 +1,7 @@
+use Rattle.print_program.specs.Page.{taken_page}
+use Rattle.print_program.proofs.write_taken.Goals as goal
+
+pub returns : goal.returns
+unfolding taken_page
+returns c = let taken = c.take_bundle-taken.ensures in
+    rw (← taken) c.write_held.ensures
