@@ -17,9 +17,9 @@ use Rattle.event.specs.declared.Grant.{Grant}
 use Rattle.event.specs.declared.Body.{Body}
 use Rattle.event.specs.declared.Body.TheVariants.{Create as create, Grant as grant, Revoke as revoke, Join as join, Unplug as unplug}
 use Rattle.event.specs.Fields.{parent_count, parent_ids, parent_id, event_at}
-use Rattle.model.specs.Events.{Id, Event, creates as createsBody, revokes, is_create, is_grant, is_revoke}
+use Rattle.model.specs.Events.{Id, Event, creates as creates_body, revokes, is_create, is_grant, is_revoke}
 use Rattle.model.specs.Heights.{find_in, View, view, ancestor}
-use Rattle.model.specs.Verdicts.{given_by, parents_sound as parentsSoundIn, presented_grant, to_author, has_right, permits, target_suits, sound_from, sound}
+use Rattle.model.specs.Verdicts.{given_by, parents_sound as parents_sound_in, presented_grant, to_author, has_right, permits, target_suits, sound_from, sound}
 use Rattle.model.proofs.HeightLaws.{height→, settled→}
 use Rattle.model.specs.SoundLaws.{SoundBy}
 use Rattle.model.proofs.SoundLaws.{sound-settled, sound_law, sound-creator, sound→}
@@ -43,7 +43,7 @@ pub and-three : (a b c : Bool) → (a && b && c) ≡ (a && (b && (c && true)))
 and-three a b c = rw (and-true c) (and_assoc a b c)
 
 -- a revoke is no create
-pub revoke_other : (b : Body) → revokes b ≡ true → createsBody b ≡ false
+pub revoke_other : (b : Body) → revokes b ≡ true → creates_body b ≡ false
 revoke_other create t = clash false t refl
 revoke_other (grant g) t = refl
 revoke_other revoke t = refl
@@ -106,8 +106,8 @@ module _ {store : Bytes} {n : ℕ} {ids : Bytes} {index P T M Q G : List ℕ} (t
     place_first : 1 ≤ parent_count (event_at store k) → get_or P (k * 5) 0 ≡ place_by n ids index (parent_id (event_at store k) 0)
     place_first = first_some tables.levelled.loaded tables.levelled.reads k h
 
-    parents_are : parents_sound P S k ≡ parentsSoundIn (sound seen) (held_at store k)
-    unfolding parents_sound parentsSoundIn event_of parent_ids chunks
+    parents_are : parents_sound P S k ≡ parents_sound_in (sound seen) (held_at store k)
+    unfolding parents_sound parents_sound_in event_of parent_ids chunks
     parents_are = go (parent_count (event_at store k)) refl parent_is
       where
         id : ℕ → Id
@@ -175,7 +175,7 @@ module _ {store : Bytes} {n : ℕ} {ids : Bytes} {index P T M Q G : List ℕ} (t
 
     abbrev conditions : Bool
     conditions =
-        parentsSoundIn (sound seen) (held_at store k)
+        parents_sound_in (sound seen) (held_at store k)
         && maybe false (permits (held_at store k)) (presented_grant seen (held_at store k))
         && target_suits seen (held_at store k)
 
@@ -186,7 +186,7 @@ module _ {store : Bytes} {n : ℕ} {ids : Bytes} {index P T M Q G : List ℕ} (t
         (λ p e w.
         rw (e, lt-ltb p 256 (omega (arith, w.inside, few tables)), given_grant p (gives p), granted p w)
         (ap₂ ◌&&◌ (ap₂ ◌&&◌ parents_are (same (gives p))) (sym (target_is tables k p h s w))))
-        (λ e f. rw (e, f, and-false (parents_sound P S k), and-false (parentsSoundIn (sound seen) (held_at store k))))
+        (λ e f. rw (e, f, and-false (parents_sound P S k), and-false (parents_sound_in (sound seen) (held_at store k))))
       where
         gives : ℕ → Option Grant
         gives p = given_by (held_at store p).author (held_at store p).body

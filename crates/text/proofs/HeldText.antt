@@ -22,7 +22,7 @@ use Rattle.cabling.specs.Ports.{link_in}
 use Rattle.cabling.specs.Rows.{row_bytes, RowsWritten}
 use Rattle.cabling.proofs.Rows.{row-bytes_size, map-bytes}
 use Rattle.text_format.specs.declared.Printed.{Printed}
-use Rattle.text_format.specs.Text.{room_text, text_of as textOfRows, answer_of, output_of, answer_of_printed}
+use Rattle.text_format.specs.Text.{room_text, text_of as text_of_rows, answer_of, output_of, answer_of_printed}
 use Rattle.text_format.specs.RowLaws.{Octets, text_of_store}
 use Rattle.openers.specs.declared.LinkAnswer.{LinkAnswer}
 use Rattle.openers.specs.declared.LinkAnswer.TheVariants.{Linked, Refused}
@@ -76,7 +76,7 @@ module _ {table store : Bytes} {n : ℕ} {verdicts ports : List ℕ} {r : LinkAn
     passed = ap number_of_linked (sym told) ∙ s.told
 
     same : Octets table → {rows : Bytes} → rows ≡ row_bytes (machine (held_view store n)).links
-        → textOfRows rows (take n verdicts) ≡ text
+        → text_of_rows rows (take n verdicts) ≡ text
     same bytes {rows} e =
         text_of_store table bytes store n (passed_store table store n passed).1.passes rows (take n verdicts)
         (e ∙ sym (map-bytes (held_view store n)))
@@ -96,8 +96,8 @@ module _ {table store : Bytes} {n : ℕ} {verdicts ports : List ℕ} {r : LinkAn
     pub text_told : Octets table
         → {k : ℕ} {rows₀ rows : Bytes} → RowsWritten (link_in store) ports rows₀ rows k → length rows₀ ≡ 2048
         → {p q : Printed} {left : Bytes} → p ≡ q
-        → (answer_of_printed p ≡ answer_of (textOfRows (take (k * 8) rows) (take n verdicts)) out)
-        × (left ≡ output_of (textOfRows (take (k * 8) rows) (take n verdicts)) out)
+        → (answer_of_printed p ≡ answer_of (text_of_rows (take (k * 8) rows) (take n verdicts)) out)
+        × (left ≡ output_of (text_of_rows (take (k * 8) rows) (take n verdicts)) out)
         → answered (answer_of_printed q) left ≡ text_of table store n out
     text_told bytes wrote size e printed =
         let here = same bytes (rows_front (s.left w told) wrote size) in
