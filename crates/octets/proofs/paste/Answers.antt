@@ -5,7 +5,7 @@ use Rattle.octets.proofs.paste.Goals as goal
 
 pub returns-then-src-dst : goal.returns-then-src-dst
 returns-then-src-dst c = let a = c.args in
-    rw c.copy_from_slice.ensures.after (copied a.dst.now a.src.now a.at (omega arith))
+    rw c.copy.ensures (copied a.dst.now a.src.now a.at (omega arith))
 
 pub returns-else-src-dst : goal.returns-else-src-dst
 returns-else-src-dst c = let a = c.args in
