@@ -1,3 +1,4 @@
+-- Laws over the words of specs/CallLaws.
 -- What is held after a list of calls, and what the calls of a list are refused by.
 use Rattle.std.specs.Prelude.{ℕ, ◌<◌, ◌≤◌, ◌≡◌, refl, Bool, true, false, not, ◌&&◌, cond, ltb, length, drop}
 use Rattle.std.proofs.Common.{arith, subst, ◌∙◌, ⊎_elim, length-append, length-take-le, lt-ltb}
@@ -31,6 +32,8 @@ use Rattle.takes.specs.TakeLaws.{number_in, Good, fresh_run, held_after}
 use Rattle.takes.proofs.TakeLaws.{take-answers, take_answer_good, stores←, take_places, take_stored, take_keeps, take-creator, starts←, start_held, start_creator, start_good, bundle-good}
 use Rattle.call_lists.specs.Calls.{Call, single, bundle, offers_of, offers, passes_beside, counted_events, set_of, Fits, Lent, held_by, started, after_call, after_calls, CallAnswer, of_take, answer_of_call, answers, number_of_call}
 use Rattle.call_lists.specs.CallLaws.{joined, accepted, Kept, LeftBy, takes_of}
+
+-- ── on lists ────────────────────────────────────────────────────────────────────────────────────────────────────────────
 
 accepted-append : (held es more : List Bytes) → accepted held (es ++ more) ≡ accepted (accepted held es) more
 unfolding accepted
@@ -111,6 +114,8 @@ accepted_once c es h = accepted_all (c ∷ []) es (subst Fits same h) ∙ sym sa
   where
     same : once_each (c ∷ es) ≡ c ∷ others (c ∷ []) es
     same = ap (λ (r : List Bytes). c ∷ r) (keep_cong _ _ (once_each es) (λ y. ap not (sym (or-false (same_bytes y c)))))
+
+-- ── one call ────────────────────────────────────────────────────────────────────────────────────────────────────────────
 
 -- one offer, by whether it passes and whether its id is held
 held_after_is : (o : Option ℕ) (known : Bool) (held : List Bytes) (e : Bytes) → member_of (sha256 e) (map sha256 held) ≡ known
@@ -322,6 +327,8 @@ module _ (table buffer creator : Bytes) (starts : (start_of table buffer creator
       let whole = ap (λ (l : List Bytes). l ++ es) (start_held table buffer creator starts) in
       let all = stored_all table creator (started table buffer creator) es start_kept (subst Fits (sym whole) fits) r in
       (all.each, all.behind ∙ whole)
+
+-- ── check 2 passes what lists of calls leave, and nothing else ──────────────────────────────────────────────────────────
 
 pub left-passes : (table : Bytes) (m : Lent) (buffer creator : Bytes) (calls : List Call)
     → LeftBy table m buffer creator calls

@@ -1,4 +1,5 @@
 -- What is held after a list of calls, and what the calls of a list are refused by.
+-- The laws on these words stand in proofs/CallLaws.
 use Rattle.std.specs.Prelude.{◌≡◌, cond, ltb, length, drop}
 use mathlib.Core.List.{List, [], ◌∷◌, ◌++◌, map}
 use Rattle.lists.specs.Bytes.{Bytes}

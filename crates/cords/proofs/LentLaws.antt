@@ -1,3 +1,4 @@
+-- Laws over the words of specs/LentLaws.
 -- What check 12 passes: exactly the strings of 512 bytes whose entries are equal both ways and 0 for unlike families.
 use Rattle.std.specs.Prelude.{ℕ, zero, suc, ◌+◌, ◌*◌, ◌/◌, ◌%◌, ◌<◌, ◌≡◌, refl, Bool, true, ◌||◌, eqb, ltb, length}
 use Rattle.std.proofs.Common.{arith, sym, ap, ap₂, ◌∙◌}

@@ -1,4 +1,5 @@
 -- What check 12 passes: exactly the strings of 512 bytes whose entries are equal both ways and 0 for unlike families.
+-- The laws on these words stand in proofs/LentLaws.
 use Rattle.std.specs.Prelude.{ℕ, ◌<◌, ◌≡◌, Bool, length}
 use Rattle.lists.specs.Bytes.{Bytes}
 use Rattle.cords.specs.Cords.{family}

@@ -1,3 +1,4 @@
+-- Laws over the words of specs/Bytes.
 -- Byte strings: equality and order. This is the one equality of ids and the one order of ids.
 use Rattle.std.specs.Prelude.{ℕ, ◌<◌, ◌≡◌, refl, ◌⊎◌, true, false, ◌&&◌, [], ◌∷◌, eqb, ltb}
 use Rattle.std.proofs.Common.{arith, sym, ap₂, ◌∙◌, inl, inr, ⊎_elim, ltb-true, eqb-true, lt-ltb, eq-eqb}

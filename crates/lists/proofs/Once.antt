@@ -1,3 +1,4 @@
+-- Laws over the words of specs/Once.
 -- A list of byte strings with each of them once.
 use Rattle.std.specs.Prelude.{◌≡◌, refl, Bool, true, not}
 use Rattle.std.proofs.Common.{ap, ⊎_elim}

@@ -1,3 +1,4 @@
+-- Laws over the words of specs/Tests.
 -- Tests over a list: some member passes, all do, those that do; and membership of a byte string.
 use Rattle.std.specs.Prelude.{ℕ, zero, suc, ◌+◌, ◌<◌, ◌≡◌, refl, Bool, true, false, not, ◌&&◌, ◌||◌, cond, length, get_or}
 use Rattle.std.proofs.Common.{not-suc-le-zero, le_of_suc-le-suc, arith, ap, ap₂, ⊎_elim}

@@ -1,3 +1,4 @@
+-- Laws over the words of specs/Agreement.
 -- Two lists with the same members and no shared ids have one view, so every answer agrees on them.
 use Rattle.std.specs.Prelude.{◌≡◌, List, length}
 use Rattle.std.proofs.Common.{sym, ap, ◌∙◌}

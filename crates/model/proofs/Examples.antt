@@ -1,3 +1,4 @@
+-- Laws over the words of specs/Examples.
 -- The drawn examples 1 to 9, with given strings for ids: one list of tests and one proof, by computation. Each negative example
 -- stands beside a positive one, and beside them stand tests of what the nine leave open.
 use Rattle.std.specs.Prelude.{ℕ, zero, suc, ◌≡◌, refl, true}

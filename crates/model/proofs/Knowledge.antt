@@ -1,3 +1,4 @@
+-- Laws over the words of specs/Knowledge.
 -- What is settled in a set stays in every larger one: its height, ancestors, line and soundness. And every grant on an effective
 -- event's line is effective.
 use Rattle.std.specs.Prelude.{ℕ, ◌≡◌, Bool, true, false, ◌||◌}

@@ -1,3 +1,4 @@
+-- Laws over the words of specs/SoundLaws.
 -- Soundness: exactly the five conditions; and the lines of sound events, which lead to the creator.
 use Rattle.std.specs.Prelude.{ℕ, zero, suc, ◌<◌, ◌≡◌, Bool, not, ◌&&◌, ◌||◌, eqb}
 use Rattle.std.proofs.Common.{arith, sym, ap, ◌∙◌, ⊎_elim}

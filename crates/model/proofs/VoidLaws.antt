@@ -1,3 +1,4 @@
+-- Laws over the words of specs/VoidLaws.
 -- Void and effective: the sentence that defines them, as conditions on any test; the test `effective` meets them, and nothing
 -- else does.
 use Prim.Native.Nat.{ℕ, zero, suc, ◌<◌}
@@ -22,6 +23,8 @@ use Rattle.model.proofs.AncestryLaws.{steady, ancestor-settled}
 use Rattle.model.proofs.LineLaws.{line-creator, on_line_lem}
 use Rattle.model.proofs.SoundLaws.{sound→, sound-settled, sound-creator, presents}
 use Rattle.model.specs.VoidLaws.{Struck, EffectiveBy, Strike}
+
+-- ── one step ────────────────────────────────────────────────────────────────────────────────────────────────────────────
 
 strikes→ : (v : View) (r : Event) (i : Id) → strikes v r i ≡ true → Strike v r i
 unfolding strikes

@@ -1,4 +1,5 @@
 -- Two lists with the same members and no shared ids have one view, so every answer agrees on them.
+-- The laws on these words stand in proofs/Agreement.
 use Rattle.std.specs.Prelude.{◌≡◌, List}
 use Rattle.model.specs.Events.{Id, Event}
 use Rattle.model.specs.Heights.{view, written}

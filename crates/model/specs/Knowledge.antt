@@ -1,5 +1,6 @@
 -- What is settled in a set stays in every larger one: its height, ancestors, line and soundness. And every grant on an effective
 -- event's line is effective.
+-- The laws on these words stand in proofs/Knowledge.
 use Rattle.std.specs.Prelude.{◌≡◌}
 use mathlib.Core.List.{List}
 use Rattle.model.specs.Events.{Id, Event}

@@ -1,4 +1,5 @@
 -- Soundness: exactly the five conditions; and the lines of sound events, which lead to the creator.
+-- The laws on these words stand in proofs/SoundLaws.
 use Rattle.std.specs.Prelude.{ℕ, ◌≡◌}
 use Rattle.std.proofs.Math.Bool.{true, false}
 use Rattle.std.proofs.Math.Option.{some}
@@ -35,6 +36,8 @@ pub record SoundBy (v : View) (e : Event) : Type 0 where
       → has given.rights q ≡ true
   -- a revoke's target
   pub target_suits_lem : is_revoke e ≡ true → TargetBy v e
+
+-- ── the lines of sound events ─────────────────────────────────────────────────────────────────────────────────────────
 
 -- "The line of an event is P, then the line of P, up to the creator"
 pub record LinesBy (s : List Event) (line : Id → List Id) : Type 0 where

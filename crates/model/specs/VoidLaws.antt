@@ -1,5 +1,6 @@
 -- Void and effective: the sentence that defines them, as conditions on any test; the test `effective` meets them, and nothing
 -- else does.
+-- The laws on these words stand in proofs/VoidLaws.
 use Rattle.std.specs.Prelude.{◌≡◌, Bool, true, false}
 use mathlib.Core.List.{List, Memᴰ}
 use Rattle.model.specs.Events.{Id, Event, is_revoke}

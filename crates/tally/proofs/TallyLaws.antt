@@ -1,3 +1,4 @@
+-- Laws over the words of specs/TallyLaws.
 -- The figures that a bundle adds are its events' answers, counted in the lent tally one by one.
 use Rattle.std.specs.Prelude.{ℕ, ◌+◌, ◌≤◌, ◌≡◌, refl, true, false, List, [], ◌∷◌, ltb}
 use Rattle.std.proofs.Common.{arith, sym, ap, ◌∙◌, ltb-true, ltb-false, lt-ltb, le-ltb}

@@ -1,4 +1,5 @@
 -- The figures that a bundle adds are its events' answers, counted in the lent tally one by one.
+-- The laws on these words stand in proofs/TallyLaws.
 use Rattle.std.specs.Prelude.{ℕ, ◌≤◌}
 use Rattle.lists.specs.Bytes.{Bytes}
 use Rattle.takes.specs.declared.Tally.{Tally}
