@@ -17,7 +17,7 @@ SOURCES = {".rt", ".antt", ".h", ".c", ".rs", ".py", ".sh", ".toml", ".txt"}
 ALLOWED = set("""
     fmt --data --only --allow-holes --start rattle-kit-13f dac8208d650f15bf
     logic proved axioms logic-built libraries-built statements incremental trusted nat
-    libc libc::lseek os::c::__xpg_strerror_r os::c::rattle_errno memmove
+    libc libc::lseek os::c::__xpg_strerror_r os::c::rattle_errno
     target/ out/ out/NAME out/libunit_c.a crates/NAME/out/ compare/target/differences target/delivery/pelchunda-VERSION
     crates/a/must-fail/b.edit crate/specs/File.name crate/proofs/File.name proofs/F/Invariants.antt proofs/F/Answers.antt
     lib/libpelchunda.a lib/pkgconfig/pelchunda.pc share/pelchunda/sample share/pelchunda/acceptance
