@@ -3,7 +3,7 @@
  * format number, the calls on a struct pelchunda_unit beside the plain ones, the
  * readers of rows, and the words.
  *
- *     gcc -std=c99 -O2 -Wall -Wextra -I include examples/header.c target/staticlib/libunit_c.a -o header
+ *     gcc -std=c99 -O2 -Wall -Wextra -I include examples/header.c crates/unit_c/out/libunit_c.a -o header
  *     ./header
  */
 #include <stdio.h>

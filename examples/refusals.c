@@ -4,7 +4,7 @@
  * it returns and that what it was lent is as it was; the count is 0 after a
  * refused start.
  *
- *     gcc -std=c99 -Wall -Wextra -Werror -I include examples/refusals.c target/staticlib/libunit_c.a -o refusals
+ *     gcc -std=c99 -Wall -Wextra -Werror -I include examples/refusals.c crates/unit_c/out/libunit_c.a -o refusals
  *     ./refusals
  */
 #include <stdio.h>

@@ -90,7 +90,7 @@ def rust_functions(text):
 
 
 def rattle_functions(text):
-    found = re.finditer(r'#\[no_mangle\]\s*pub extern "C" fn (\w+)\(([^)]*)\) -> (\w+)', text)
+    found = re.finditer(r'#\[unsafe\(no_mangle\)\]\s*pub extern "C" fn (\w+)\(([^)]*)\) -> (\w+)', text)
     return {m[1]: ([c for p in parts(m[2]) for c in from_rattle(p)], m[3]) for m in found}
 
 

@@ -8,7 +8,7 @@ set -eu
 
 cd "$(dirname "$0")/.."
 . tools/compilers.sh
-library=target/staticlib/libunit_c.a
+library=crates/unit_c/out/libunit_c.a
 first=target/libunit_c.first.a
 status=0
 
@@ -21,11 +21,17 @@ step() {
     }
 }
 
+# Proves the library and writes its archive, for every x86-64: without the flag rt compiles for x86-64-v2, and a library does not ask
+# what it runs on.
+build() {
+    (cd crates/unit_c && rt lib --cpu x86-64)
+}
+
 # The first archive is kept, and a second one is built.
 build_twice() {
-    rt staticlib unit_c &&
+    build &&
         mv "$library" "$first" &&
-        rt staticlib unit_c &&
+        build &&
         cmp "$first" "$library" &&
         echo "two builds are equal byte for byte" &&
         sha256sum "$library"

@@ -1,8 +1,10 @@
 #!/bin/sh
 # Makes the delivery of the commit that is checked out, in target/delivery/pelchunda-VERSION: library, header, pkg-config file,
 # documents, contracts, sample card, acceptance test and manifest. All of it comes from a clean clone of the commit, in which the gate
-# (.ci/run, 35 to 70 minutes) has passed; the gate's log is kept for the commit, so that a second run does not repeat it. Twice from
-# one commit gives the same bytes. Then the delivery is tried by itself.
+# (.ci/run) has passed; the gate's log is kept for the commit, so that a second run does not repeat it. Twice from one commit gives
+# the same bytes. Then the delivery is tried by itself.
+# The library is for every x86-64 (--cpu). What is left in target/gate and target/delivery has files that rt ci refuses at the top of
+# a checkout: there, remove both folders before the gate.
 # usage: sh tools/deliver.sh [PREFIX]: with a prefix, such as /usr/local, it is installed there too.
 # Needs git, rt, python3, gcc, binutils and pkg-config.
 set -eu
@@ -63,12 +65,12 @@ END
 
 # Library, header, documents, contracts, sample and acceptance test, from the clone.
 fill() {
-    (cd "$clone" && rt staticlib unit_c) >"$log.library" 2>&1 || fail "the library was not built: $log.library"
+    (cd "$clone/crates/unit_c" && rt lib --cpu x86-64) >"$log.library" 2>&1 || fail "the library was not built: $log.library"
     rm -rf "$delivery"
     documents=$delivery/share/doc/pelchunda
     data=$delivery/share/pelchunda
     mkdir -p "$delivery/include" "$delivery/lib/pkgconfig" "$documents/contracts" "$data/sample" "$data/acceptance"
-    cp "$clone/target/staticlib/libunit_c.a" "$delivery/lib/libpelchunda.a"
+    cp "$clone/crates/unit_c/out/libunit_c.a" "$delivery/lib/libpelchunda.a"
     cp "$clone/include/pelchunda.h" "$delivery/include/"
     write_pkg_config >"$delivery/lib/pkgconfig/pelchunda.pc"
     cp "$clone"/docs/*.md "$documents/"

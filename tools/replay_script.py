@@ -20,8 +20,3 @@ def records():
         n = struct.unpack(">I", script[at + 1 : at + 5])[0]
         yield chr(script[at]), script[at + 5 : at + 5 + n], next(lines)
         at += 5 + n
-
-
-def written(letter, payload):
-    """The bytes of a record."""
-    return letter.encode("ascii") + struct.pack(">I", len(payload)) + payload

@@ -1,101 +1,88 @@
 #!/usr/bin/env python3
-"""Runs every program as compiled in three ways, without optimisation (-O0), with all of it (-O3), and with the compiler's
-assumptions checked as it runs, by `rt try`; each must write what its `stdout` has. Those that need no file and take few steps
-run on the interpreter too. A checked run of the whole script of `replay` takes longer than `rt try` waits, so the script is
-run by parts, in a copy of the repository. Where a part that cannot be cut takes too long, its front must do. It proves nothing.
-Its status is 1 where a run differs."""
+"""Runs every program as compiled in three ways: as proved, without optimisation (by Rattle's own compiler, since LLVM always does all
+of it) and by LLVM at -O3, which `rt run` builds; and with checks as it runs, by `rt try`, which proves nothing. Each must end with
+status 0 and write what its `stdout` has. Those that read nothing and take few steps run on the interpreter too, by `rt try`. With no
+names it runs all of them. Its status is 1 where a run differs. usage: tools/three_ways.py [NAME..]"""
 import shutil
 import subprocess
 import sys
 import tempfile
 from pathlib import Path
 
-from replay_script import ROOT, records, written
+from replay_script import ROOT, records
 
-WAYS = ["at -O0", "at -O3", "with LLVM's assumptions checked"]
-ON_INTERPRETER = {"vectors", "drawn_room"}  # the others read or write by C's functions, or take too many steps
-MOST_STORES = 70  # records that print the store's digest, which takes the most time, of a part that may take no longer
-OUT_OF_TIME = "FAIL: the native program with LLVM's assumptions checked failed, with status 124"
+BUILDS = {"without optimisation": ["--backend", "rattle", "--opt-level", "0"], "at -O3": ["--backend", "llvm"]}
+CHECKED = "with checks"
+WAYS = [*BUILDS, CHECKED]
+ON_INTERPRETER = {"vectors", "drawn_room"}  # the others read input or files, or take too many steps
+SECONDS = "900"  # for a checked run: of replay's script it takes 2 to 4 minutes
 
 
 def programs():
     return [p.parent.parent.name for p in sorted((ROOT / "crates").glob("*/src/main.rt"))]
 
 
-def ran(folder, name):
-    """Where a program wrote what it must: the ways of compiling, and the interpreter."""
-    done = subprocess.run(["rt", "try", name], cwd=folder, capture_output=True, text=True)
-    lines = (done.stdout + done.stderr).splitlines()
-    ok = [line for line in lines if line.startswith("ok: ") and line.endswith("ended and wrote what is expected")]
-    ways = [way for way in WAYS if f"ok: the native program {way} ended and wrote what is expected" in ok]
-    return ways, "ok: the interpreter ended and wrote what is expected" in ok, lines
+def contents(path):
+    return path.read_bytes() if path.is_file() else b""
 
 
-def right(folder, name, what, long=False):
-    """Runs a program, and says where it does not do what it must. A checked run of a long part may run out of time."""
-    ways, interpreted, lines = ran(folder, name)
-    if long and OUT_OF_TIME in lines:
-        print(f"{what}: the checked run took too long")
-        ways.append(WAYS[-1])
-    if ways == WAYS and (interpreted or name not in ON_INTERPRETER):
-        return True
-    print(f"{what}: NOT as expected", *lines, sep="\n    ")
-    return False
+def lines_of(output):
+    return output.decode("utf-8", "replace").splitlines()
 
 
-def segments():
-    """The script from reset to reset: its records, with their lines, and how many of them print the store's digest."""
-    segment, stores = [], 0
-    for letter, payload, line in records():
-        segment.append((written(letter, payload), line + "\n"))
-        stores += letter in "STB"
-        if letter == "Z":
-            yield segment, stores
-            segment, stores = [], 0
-    yield segment, stores
+def ran(crate, words, folder):
+    """Runs a command on the program's input: whether it ended with status 0 and wrote what it must, and what is to be said of it."""
+    done = subprocess.run(words, cwd=folder, input=contents(crate / "stdin"), capture_output=True)
+    want, got = contents(crate / "stdout").split(b"\n"), done.stdout.split(b"\n")
+    differs = next((f"from line {n} on" for n, (a, b) in enumerate(zip(want, got), 1) if a != b), "" if want == got else "in length")
+    said = [f"status {done.returncode}", *lines_of(done.stderr), *([f"output differs {differs}"] if differs else [])]
+    return done.returncode == 0 and not differs, said
 
 
-def parts():
-    """The script in parts of whole segments, so that each starts as the program does; and whether a part is long."""
-    part, printed = [], 0
-    for segment, stores in segments():
-        if part and printed + stores > MOST_STORES:
-            yield part, False
-            part, printed = [], 0
-        if stores > MOST_STORES:
-            yield segment[:MOST_STORES], False
-            yield segment, True
-        else:
-            part, printed = part + segment, printed + stores
-    if part:
-        yield part, False
-
-
-def replayed():
-    """Runs the script of `replay` by parts in a copy of the crates: whether all is right, and how many parts."""
-    runs, good = 0, True
+def as_built(crate, flags):
+    """Builds the proved program, and runs it in a copy of its data: whether it does what it must, and what is to be said."""
+    program = crate / "out" / crate.name
+    program.unlink(missing_ok=True)
+    built = subprocess.run(["rt", "run", *flags], cwd=crate, stdin=subprocess.DEVNULL, capture_output=True)
+    if not program.exists():
+        return False, lines_of(built.stdout + built.stderr)
     with tempfile.TemporaryDirectory() as folder:
-        copy = Path(folder)
-        shutil.copytree(ROOT / "crates", copy / "crates")
-        shutil.copy(ROOT / "crates.txt", copy)
-        for part, long in parts():
-            (copy / "crates/replay/stdin").write_bytes(b"".join(record for record, _ in part))
-            (copy / "crates/replay/stdout").write_text("".join(line for _, line in part), encoding="ascii")
-            runs += 1
-            good &= right(copy, "replay", f"replay, part {runs}, {len(part)} records", long)
-    return good, runs
+        place = Path(folder, "data")
+        shutil.copytree(crate / "data", place) if (crate / "data").is_dir() else place.mkdir()
+        shutil.copy(program, folder)
+        return ran(crate, ["timeout", "120", f"{folder}/{crate.name}"], place)
+
+
+def as_tried(crate):
+    """Whether a program does what it must with checks, whether on the interpreter, and what is to be said."""
+    files = sorted(path.relative_to(crate / "data") for path in (crate / "data").rglob("*") if path.is_file())
+    data = [word for name in files for word in ("--data", f"{name}=data/{name}")]
+    good, said = ran(crate, ["rt", "try", "--seconds", SECONDS, *data], crate)
+    return good and "checked: ended status=0" in said, good and "interpreter: ended status=0" in said, said
+
+
+def right(name):
+    """Runs a program, and says where it does not do what it must."""
+    crate, wrong = ROOT / "crates" / name, []
+    for way, flags in BUILDS.items():
+        good, said = as_built(crate, flags)
+        wrong += [] if good else [f"{name}, {way}: NOT as expected", *said]
+    checked, interpreted, said = as_tried(crate)
+    if not (checked and (interpreted or name not in ON_INTERPRETER)):
+        wrong += [f"{name}, {CHECKED} or on the interpreter: NOT as expected", *said]
+    print("\n    ".join(wrong) or f"{name}: as expected {', '.join(WAYS)}{', on the interpreter' * interpreted}", flush=True)
+    return not wrong
 
 
 def main():
-    good, runs = replayed()
-    names = [name for name in programs() if name != "replay"]
-    for name in names:
-        good &= right(ROOT, name, name)
-    if good:
-        print(f"replay: {len(list(records()))} records in {runs} parts are answered alike {', '.join(WAYS)}")
-        print(f"so are the programs {', '.join(names)}")
-        print(f"on the interpreter too: {', '.join(sorted(ON_INTERPRETER))}")
-    return 0 if good else 1
+    names = sys.argv[1:] or programs()
+    good = [right(name) for name in names]
+    if all(good):
+        print(f"the programs {', '.join(names)} are as expected {', '.join(WAYS)}")
+        print(f"on the interpreter too: {', '.join(sorted(ON_INTERPRETER & set(names))) or 'none'}")
+        if "replay" in names:
+            print(f"replay: {len(list(records()))} records are answered alike in each way")
+    return 0 if all(good) else 1
 
 
 sys.exit(main())
