@@ -3,9 +3,8 @@
 
 #![tactic(auto)]
 
-ghost use Rattle.std.specs.Prelude.{◌≡◌, length};
+ghost use Rattle.std.specs.Prelude.{◌≡◌, ◌≤◌, length, take};
 ghost use Rattle.std.specs.Io.{ReadsAtMost};
-ghost use Rattle.replaying.specs.Counts.{IsPrefixLen};
 
 use event::Refusal;
 use reports::{CountAnswer, MapAnswer, VerdictAnswer};
@@ -65,7 +64,8 @@ fn output_area() -> [u8; 65536]
 
 // So many of the bytes, or all where there are fewer.
 fn within(n: usize, bytes: &[u8]) -> usize
-    ensures { IsPrefixLen result bytes.now }
+    ensures in_bounds { result ≤ length bytes.now }
+    ensures front { result ≡ length (take result bytes.now) }
 {
     if n < bytes.len() { n } else { bytes.len() }
 }

@@ -1,6 +1,0 @@
--- What the contract of `within` cites.
-use Rattle.std.specs.Prelude.{◌≡◌, ℕ, ◌≤◌, List, length, take}
-
--- `&xs[..n]` is in bounds and has n bytes
-abbrev pub IsPrefixLen : ℕ → List ℕ → Type 0
-IsPrefixLen n xs = (n ≤ length xs) × (n ≡ length (take n xs))
