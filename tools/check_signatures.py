@@ -132,8 +132,9 @@ def constants(header, texts):
 
 
 def numbers(header, texts):
-    """The enum of the header against `number` of `event`."""
-    code = {m[1].lower(): m[2] for m in re.finditer(r"Refusal::(\w+) => (\d+)", texts["event"])}
+    """The enum of the header against the enum `Refusal` of `event`."""
+    cases = re.search(r"enum Refusal \{(.*?)\}", texts["event"], re.S)[1]
+    code = {m[1].lower(): m[2] for m in re.finditer(r"(\w+) = (\d+),", cases)}
     enum = re.search(r"enum pelchunda_number \{(.*?)\}", header, re.S)[1]
     shown = {m[1].replace("_", "").lower(): m[2] for m in re.finditer(r"PELCHUNDA_(\w+) = (\d+)", enum) if m[1] != "OK"}
     if not code or code != shown:

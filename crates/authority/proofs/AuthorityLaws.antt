@@ -25,7 +25,7 @@ use Rattle.model.specs.SoundLaws.{SoundBy}
 use Rattle.model.proofs.SoundLaws.{sound-settled, sound_law, sound-creator, sound→}
 use Rattle.model.specs.Store.{event_of, held_in}
 use Rattle.model.proofs.Packing.{kind_other}
-use Rattle.store.specs.declared.Slot.TheVariants.{At as Held, Gap}
+use Rattle.std.specs.Prelude.{Ok as Held, Err}
 use Rattle.store.specs.Tables.{slot_in}
 use Rattle.ordering.specs.Named.{no_place, place_by}
 use Rattle.ordering.specs.LevelLaws.{Later}
@@ -33,9 +33,10 @@ use Rattle.ordering.proofs.LevelLaws.{entry_some, entry_none, first_some}
 use Rattle.ordering.proofs.LevelLaws.{level_from, by_slot, second_parent, third_parent, creates, later, levels_heights}
 use Rattle.ordering.specs.Placed.{held_at, id_of}
 use Rattle.ordering.proofs.Placed.{slot_place}
+use Rattle.tables.specs.declared.BitRow.{BitRow}
 use Rattle.authority.specs.Found.{given_at, grant_in, given_grant}
 use Rattle.authority.specs.Lines.{Authority}
-use Rattle.authority.specs.Sound.{parent_sound, parents_sound, permits_by, target_suits_at, sound_at, bit_test, SoundTable}
+use Rattle.authority.specs.Sound.{parent_sound, parents_sound, permits_by, target_suits_at, sound_at, SoundTable}
 use Rattle.authority.specs.PlaceLaws.{Tables, AncestorAt, few, found, level_is, settled_at, level_of_lem, by_presented, by_target, no_target, target_is}
 
 -- three tests, as a list's tests are put together
@@ -50,8 +51,8 @@ revoke_other revoke t = refl
 revoke_other (join c) t = refl
 revoke_other (unplug a) t = refl
 
-module _ {store : Bytes} {n : ℕ} {ids : Bytes} {index P T M Q G : List ℕ} (tables : Tables store n ids index P T M Q G)
-    (S l : List ℕ) (sounding : SoundTable store P Q G l S)
+module _ {store : Bytes} {n : ℕ} {ids : Bytes} {index P T : List ℕ} {M : List BitRow} {Q G : List ℕ} (tables : Tables store n ids index P T M Q G)
+    (S : List Bool) (l : List ℕ) (sounding : SoundTable store P Q G l S)
     (all_in : (k : ℕ) → k < n → (get_or T k 0 ≡ 0 → ⊥) → Memᴰ k l)
     (only-settled : (k : ℕ) → Memᴰ k l → get_or T k 0 ≡ 0 → ⊥) where
   abbrev held : List Event
@@ -68,7 +69,7 @@ module _ {store : Bytes} {n : ℕ} {ids : Bytes} {index P T M Q G : List ℕ} (t
   later_at = later tables.levelled.loaded
 
   abbrev Right : ℕ → Type 0
-  Right k = eqb (get_or S k 0) 1 ≡ sound seen (id_of store k)
+  Right k = get_or S k false ≡ sound seen (id_of store k)
 
   -- a settled place, all below which are right
   module _ (k : ℕ) (h : k < n) (s : Settled k) (not_first : k ≡ 0 → ⊥) (right : (q : ℕ) → q < n → get_or T q 0 < get_or T k 0 → Right q) where
@@ -93,7 +94,7 @@ module _ {store : Bytes} {n : ℕ} {ids : Bytes} {index P T M Q G : List ℕ} (t
             let place = slot_place tables.levelled.loaded a p e in
             rw (e, ne_eqb p no_place (λ z. omega (arith, few tables, place.0, z))) (right p place.0 (rw e at level.1) ∙ ap (sound seen) place.1)
 
-        gone : (g : ℕ) → slot_in ids 0 (take n index) a ≡ Gap g → parent_sound S (place_by n ids index a) ≡ sound seen a
+        gone : (g : ℕ) → slot_in ids 0 (take n index) a ≡ Err g → parent_sound S (place_by n ids index a) ≡ sound seen a
         gone g e = absurd (level.0 (rw e (get_or-eq_default T 0 (omega (arith, few tables, tables.levelled.long)))))
 
     -- where parent j stands, and that no parent j is
@@ -205,8 +206,7 @@ module _ {store : Bytes} {n : ℕ} {ids : Bytes} {index P T M Q G : List ℕ} (t
   row : (k : ℕ) → k < n → Settled k → ((q : ℕ) → q < n → get_or T q 0 < get_or T k 0 → Right q) → Right k
   unfolding sound_at
   row k h s right =
-      ap (λ (v : ℕ). eqb v 1) (sounding.made k (all_in k h s))
-      ∙ bit_test (sound_at store P Q G S k)
+      sounding.made k (all_in k h s)
       ∙ by_bool (eqb k 0) first (λ f. other_row k h s (eqb-false k 0 f) right)
     where
       first : eqb k 0 ≡ true → sound_at store P Q G S k ≡ sound seen (id_of store k)
@@ -221,7 +221,7 @@ module _ {store : Bytes} {n : ℕ} {ids : Bytes} {index P T M Q G : List ℕ} (t
 
   waits : (k : ℕ) → k < n → get_or T k 0 ≡ 0 → Right k
   waits k h z =
-      ap (λ (v : ℕ). eqb v 1) (sounding.rest k (λ m. only-settled k m z))
+      sounding.rest k (λ m. only-settled k m z)
       ∙ by_bool (sound seen (id_of store k))
       (λ t. absurd (sound_level k h t z))
       (λ f. sym f)

@@ -1,5 +1,5 @@
--- Lines by places, and what the tables say. Q is the table of presented places, G that of targets, S says which places are sound (1).
-use Rattle.std.specs.Prelude.{ℕ, zero, suc, ◌<◌, ◌≡◌, true, false, cond, List, [], ◌∷◌, eqb, ltb, get_or}
+-- Lines by places, and what the tables say. Q is the table of presented places, G that of targets, S says which places are sound.
+use Rattle.std.specs.Prelude.{ℕ, zero, suc, ◌<◌, ◌≡◌, Bool, true, false, cond, List, [], ◌∷◌, ltb, get_or}
 use Rattle.lists.specs.Bytes.{Bytes}
 use Rattle.model.specs.Events.{is_revoke}
 use Rattle.model.specs.Heights.{view}
@@ -15,8 +15,8 @@ line_from Q zero k = []
 line_from Q (suc f) k = cond (ltb (get_or Q k 0) missing) (get_or Q k 0 ∷ line_from Q f (get_or Q k 0)) []
 
 -- the tables say what the model says of the events held
-pub record Authority (store : Bytes) (n : ℕ) (Q G S : List ℕ) : Type 0 where
-  pub sound_is : (k : ℕ) → k < n → eqb (get_or S k 0) 1 ≡ sound (view (held_in store n)) (id_of store k)
+pub record Authority (store : Bytes) (n : ℕ) (Q G : List ℕ) (S : List Bool) : Type 0 where
+  pub sound_is : (k : ℕ) → k < n → get_or S k false ≡ sound (view (held_in store n)) (id_of store k)
   pub presents : (k : ℕ) → k < n → (k ≡ 0 → ⊥) → sound (view (held_in store n)) (id_of store k) ≡ true
       → (get_or Q k 0 < n) × ((held_at store k).presented ≡ id_of store (get_or Q k 0))
   pub names : (k : ℕ) → k < n → is_revoke (held_at store k) ≡ true → sound (view (held_in store n)) (id_of store k) ≡ true

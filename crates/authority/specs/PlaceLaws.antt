@@ -1,5 +1,5 @@
 -- The held events by their places: ancestors, lines, and the targets of revokes.
-use Rattle.std.specs.Prelude.{ℕ, zero, suc, ◌+◌, ◌*◌, ◌<◌, ◌≤◌, ◌≡◌, true, ◌&&◌, eqb, take}
+use Rattle.std.specs.Prelude.{ℕ, zero, suc, ◌+◌, ◌*◌, ◌<◌, ◌≤◌, ◌≡◌, true, ◌&&◌, eqb, take, Some, None}
 use Rattle.std.proofs.Common.{arith, sym, ◌∙◌}
 use Rattle.std.proofs.Math.Path.{ap, ap₂}
 use Rattle.std.proofs.Math.Logic.{⊎_elim}
@@ -29,16 +29,16 @@ use Rattle.ordering.proofs.LevelLaws.{entry_at}
 use Rattle.ordering.proofs.LevelLaws.{level_from, by_slot, find_gap, level_height}
 use Rattle.ordering.specs.Placed.{held_at, id_of}
 use Rattle.ordering.proofs.Placed.{find_place, same_place, slot_place, settled_level, level_settled, level_low}
+use Rattle.tables.specs.declared.BitRow.{BitRow}
 use Rattle.tables.specs.Bits.{bit_high}
 use Rattle.ancestry.specs.Ancestors.{AncestorBits}
-use Rattle.authority.specs.declared.Ancestor.TheVariants.{At, Nowhere}
 use Rattle.authority.specs.Found.{ancestor_by, ancestor_place, target_by}
 use Rattle.authority.specs.Lines.{line_from}
 use Rattle.authority.specs.Sound.{target_suits_at}
 
 -- the tables of a store that passed check 2, as far as soundness reads them: the rows M, and the entries of Q and G, are those of
 -- the settled places
-pub record Tables (store : Bytes) (n : ℕ) (ids : Bytes) (index P T M Q G : List ℕ) : Type 0 where
+pub record Tables (store : Bytes) (n : ℕ) (ids : Bytes) (index P T : List ℕ) (M : List BitRow) (Q G : List ℕ) : Type 0 where
   pub levelled : Levelled store n ids index P T
   pub ancestors : AncestorBits store n T M
   pub presents : (k : ℕ) → k < n → (get_or T k 0 ≡ 0 → ⊥) → get_or Q k 0 ≡ ancestor_place (ancestor_by P M k 3)
@@ -81,7 +81,7 @@ module _ (store : Bytes) (n k : ℕ) where
       (ancestor (view (held_in store n)) (id_of store k) (held_at store k).target
       && maybe false is_grant (find_in (held_in store n) (held_at store k).target)) ≡ false
 
-module _ {store : Bytes} {n : ℕ} {ids : Bytes} {index P T M Q G : List ℕ} (tables : Tables store n ids index P T M Q G) where
+module _ {store : Bytes} {n : ℕ} {ids : Bytes} {index P T : List ℕ} {M : List BitRow} {Q G : List ℕ} (tables : Tables store n ids index P T M Q G) where
   abbrev held : List Event
   held = held_in store n
 
@@ -131,8 +131,8 @@ module _ {store : Bytes} {n : ℕ} {ids : Bytes} {index P T M Q G : List ℕ} (t
 
   -- an id that the event at a settled place names is that of an ancestor, or of none
   by_search : {A : Type 0} (k j : ℕ) (a : Id) → k < n → Settled k → get_or P (k * 5 + j) 0 ≡ place_by n ids index a
-      → ((p : ℕ) → ancestor_by P M k j ≡ At p → AncestorAt store n k a p → A)
-      → (ancestor_by P M k j ≡ Nowhere → ancestor seen (id_of store k) a ≡ false → A) → A
+      → ((p : ℕ) → ancestor_by P M k j ≡ Some p → AncestorAt store n k a p → A)
+      → (ancestor_by P M k j ≡ None → ancestor seen (id_of store k) a ≡ false → A) → A
   by_search k j a h s named at gone =
       by_slot (slot_in ids 0 (take n index) a)
       (λ p e.

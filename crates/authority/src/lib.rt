@@ -3,25 +3,18 @@
 
 #![tactic(auto)]
 
-ghost use Rattle.std.specs.Prelude.{◌≡◌, ℕ, ◌<◌, eqb, get_or};
+ghost use Rattle.std.specs.Prelude.{◌≡◌, ℕ, ◌<◌, eqb, false, get_or};
 ghost use mathlib.Core.List.{Memᴰ};
 ghost use Rattle.lists.specs.Tests.{any_of};
-ghost use Rattle.model.specs.Events.{grants, revokes};
 ghost use Rattle.model.specs.Verdicts.{given_by, has, within, right_for, covers_body};
 ghost use Rattle.ordering.specs.Order.{Ordered};
-ghost use Rattle.authority.specs.Found.{ancestor_by, ancestor_place, given_from, given_at, target_by, NamedAncestors};
+ghost use Rattle.authority.specs.Found.{place_held, ancestor_by, given_from, given_at, target_by, NamedAncestors};
 ghost use Rattle.authority.specs.Lines.{line_from};
-ghost use Rattle.authority.specs.Sound.{parent_sound, parents_sound, permits_by, target_suits_at, sound_at, bit, SoundTable};
+ghost use Rattle.authority.specs.Sound.{right_number, asked_number, parent_sound, parents_sound, permits_by, target_suits_at, sound_at, SoundTable};
 
 use event::{Body, Grant, NAMED_IDS, Parsed};
 use ordering::{MISSING, NONE};
-
-// An ancestor that an event names by its id: its place, or that there is none.
-#[derive(Clone, Copy)]
-pub enum Ancestor {
-    At(u16),
-    Nowhere,
-}
+use tables::BitRow;
 
 // What P gives, and the place where it stands.
 #[derive(Clone, Copy)]
@@ -30,294 +23,248 @@ pub struct Given {
     pub grant: Grant,
 }
 
-// What an event presents: an ancestor that gives a grant, another ancestor, or no ancestor.
+// A right that an event can ask. A grant's rights are the sum of their numbers.
 #[derive(Clone, Copy)]
-pub enum Presented {
-    Gives(Given),
-    Other(u16),
-    Nothing,
+enum Right {
+    Patch = 1,
+    Grant = 2,
+    Revoke = 4,
 }
 
-fn is_grant(body: Body) -> bool
-    ensures { result ≡ grants body }
-{
-    match body {
-        Body::Create => false,
-        Body::Grant(_) => true,
-        Body::Revoke => false,
-        Body::Join(_) => false,
-        Body::Unplug(_) => false,
-    }
+// Of the events held, by place: where the ancestor stands that each presents, and the grant among its ancestors that a revoke
+// names.
+// Kept, fixed memory: an entry is MISSING for none, since an `Option` of a place takes four bytes.
+#[derive(Clone, Copy)]
+pub struct Lines<'a> {
+    pub store: &'a [u8],
+    pub named: &'a [u16; 1280],
+    pub presented: [u16; 256],
+    pub targets: [u16; 256],
 }
 
-fn is_revoke(body: Body) -> bool
-    ensures { result ≡ revokes body }
+// The entry at an index, false past the end.
+pub fn marked(table: &[bool; 256], index: u16) -> bool
+    ensures { result ≡ get_or table.now index false }
 {
-    match body {
-        Body::Create => false,
-        Body::Grant(_) => false,
-        Body::Revoke => true,
-        Body::Join(_) => false,
-        Body::Unplug(_) => false,
-    }
+    table.get(usize::from(index)).copied().unwrap_or(false)
+}
+
+// The place that an entry of a table holds.
+fn place_held(entry: u16) -> Option<u16>
+    ensures { result ≡ place_held entry }
+{
+    (entry < MISSING).then_some(entry)
 }
 
 // Finds the id j that the event at place k names among its ancestors. A row has no bit for what is no place.
-fn find_ancestor(named: &[u16; 1280], rows: &[u64; 1024], k: u16, j: u8) -> Ancestor
-    requires { (k < 256) × (j < 5) }
+#[tactic(auto, unfolding(tables::specs::Bits::bit_at))]
+fn find_ancestor(named: &[u16; 1280], rows: &[BitRow; 256], k: u8, j: u8) -> Option<u16>
+    requires { j < 5 }
     ensures { result ≡ ancestor_by named.now rows.now k j }
 {
-    let p = named[(k as usize) * NAMED_IDS + (j as usize)];
-    if tables::has(rows, k, p) {
-        Ancestor::At(p)
-    } else {
-        Ancestor::Nowhere
-    }
+    let p = named[usize::from(k) * NAMED_IDS + usize::from(j)];
+    rows[usize::from(k)].has(p).then_some(p)
 }
 
 // What the ancestor at place p gives: the creator rights 7 to its author, a grant what it says.
-fn given_by(p: u16, e: Parsed) -> Presented
+fn given_by(p: u16, e: Parsed) -> Option<Given>
     ensures { result ≡ given_from p (given_by e.author e.body) }
 {
-    let body = e.body;
-    match body {
+    match e.body {
         Body::Create => {
             let grant = Grant {
                 rights: 7,
                 subject: e.author,
             };
-            Presented::Gives(Given { place: p, grant })
+            Some(Given { place: p, grant })
         }
-        Body::Grant(grant) => Presented::Gives(Given { place: p, grant }),
-        Body::Revoke => Presented::Other(p),
-        Body::Join(_) => Presented::Other(p),
-        Body::Unplug(_) => Presented::Other(p),
+        Body::Grant(grant) => Some(Given { place: p, grant }),
+        _ => None,
     }
 }
 
 // Finds the grant that the revoke at place k names, among its ancestors; another kind names no target.
-fn find_target(store: &[u8], named: &[u16; 1280], rows: &[u64; 1024], k: u16) -> Ancestor
-    requires { k < 256 }
+#[tactic(auto, unfolding(event::specs::Contents::contents_of))]
+fn find_target(store: &[u8], named: &[u16; 1280], rows: &[BitRow; 256], k: u8) -> Option<u16>
     ensures { result ≡ target_by store.now named.now rows.now k }
 {
-    let Ancestor::At(t) = find_ancestor(named, rows, k, event::TARGET) else {
-        return Ancestor::Nowhere;
-    };
-    let e = event::read(event::event_at(store, t));
-    let body = e.body;
-    if is_grant(body) {
-        Ancestor::At(t)
-    } else {
-        Ancestor::Nowhere
+    let t = find_ancestor(named, rows, k, event::TARGET)?;
+    match event::read(event::event_at(store, t)).body {
+        Body::Grant(_) => Some(t),
+        _ => None,
     }
-}
-
-// The place of an ancestor as the tables hold it: MISSING for none.
-fn ancestor_place(a: Ancestor) -> u16
-    ensures { result ≡ ancestor_place a }
-{
-    match a {
-        Ancestor::At(p) => p,
-        Ancestor::Nowhere => MISSING,
-    }
-}
-
-// For each listed place, where the ancestor stands that it presents, and the grant among its ancestors that a revoke names;
-// MISSING for none.
-pub fn find_named_ancestors(
-    store: &[u8],
-    named: &[u16; 1280],
-    order: &[u16],
-    rows: &[u64; 1024],
-    presented: &mut [u16; 256],
-    targets: &mut [u16; 256],
-)
-    requires { (k : ℕ) → Memᴰ k order.now → k < 256 }
-    ensures { NamedAncestors store.now named.now rows.now order.now
-        presented.new targets.new }
-{
-    tables::clear(presented);
-    tables::clear(targets);
-    let mut i = 0;
-    while i < order.len() {
-        let k = order[i];
-        let p = ancestor_place(find_ancestor(named, rows, k, event::PRESENTED));
-        let t = ancestor_place(find_target(store, named, rows, k));
-        let at = k as usize;
-        presented[at] = p;
-        targets[at] = t;
-        i += 1;
-    }
-}
-
-// What the event at place k presents, by the table of presented places.
-fn find_presented(store: &[u8], presented: &[u16; 256], k: u16) -> Presented
-    requires { k < 256 }
-    ensures { result ≡ given_at store.now (get_or presented.now k 0) }
-{
-    let p = presented[k as usize];
-    if MISSING <= p {
-        return Presented::Nothing;
-    }
-    given_by(p, event::read(event::event_at(store, p)))
 }
 
 // Whether the sought place is on the line of a place: the question is passed to the place that it presents, one step nearer the
 // creator. `left` bounds the steps to the creator and falls at each call.
+#[tactic(auto, using(crate::proofs::Answers::line_none, crate::proofs::Answers::line_step))]
 fn on_line(presented: &[u16; 256], left: u16, sought: u16, place: u16) -> bool
     ensures { result ≡ any_of (eqb sought) (line_from presented.now left place) }
 {
     if left == 0 {
         return false;
     }
-    let p = tables::entry(presented, place);
-    if MISSING <= p {
+    let Some(p) = place_held(tables::entry(presented, place)) else {
         return false;
-    }
+    };
     if sought == p {
         return true;
     }
     on_line(presented, left - 1, sought, p)
 }
 
-// Whether rights r have the right q; 0 is no right.
-fn has_right(r: u8, q: u8) -> bool
-    ensures { result ≡ has r q }
+// Whether rights r have the right q.
+fn has_right(r: u8, q: Right) -> bool
+    ensures { result ≡ has r (right_number q) }
 {
-    if q == 0 {
-        return false;
-    }
-    r / q % 2 == 1
+    r / (q as u8) % 2 == 1
 }
 
 // Whether the rights f lie within the rights g.
 fn lies_within(f: u8, g: u8) -> bool
     ensures { result ≡ within f g }
 {
-    (!has_right(f, 1) | has_right(g, 1))
-        & (!has_right(f, 2) | has_right(g, 2))
-        & (!has_right(f, 4) | has_right(g, 4))
+    [Right::Patch, Right::Grant, Right::Revoke]
+        .iter()
+        .all(|q| !has_right(f, *q) || has_right(g, *q))
 }
 
-// The right that an event asks: 2 for a grant, 4 for a revoke, 1 for join and unplug. A create asks none: it presents nothing.
-fn right_for(body: Body) -> u8
-    ensures { result ≡ right_for body }
+// The right that an event asks. A create asks none: it presents nothing.
+fn right_for(body: Body) -> Option<Right>
+    ensures { asked_number result ≡ right_for body }
 {
     match body {
-        Body::Create => 0,
-        Body::Grant(_) => 2,
-        Body::Revoke => 4,
-        Body::Join(_) => 1,
-        Body::Unplug(_) => 1,
+        Body::Create => None,
+        Body::Grant(_) => Some(Right::Grant),
+        Body::Revoke => Some(Right::Revoke),
+        Body::Join(_) | Body::Unplug(_) => Some(Right::Patch),
     }
 }
 
 // Whether a grant's rights lie within those of P.
+#[tactic(auto, unfolding(model::specs::Verdicts::covers_body, model::specs::Verdicts::covers))]
 fn covers_body(grant: Grant, body: Body) -> bool
     ensures { result ≡ covers_body grant body }
 {
     match body {
-        Body::Create => true,
         Body::Grant(given) => lies_within(given.rights, grant.rights),
-        Body::Revoke => true,
-        Body::Join(_) => true,
-        Body::Unplug(_) => true,
+        _ => true,
     }
 }
 
 // Whether what P gives permits an event.
+#[tactic(auto, using(crate::proofs::Answers::asks), unfolding(crate::specs::Sound::permits_by))]
 fn permits(e: Parsed, grant: Grant) -> bool
     ensures { result ≡ permits_by e.author e.body grant }
 {
-    let author = e.author;
-    let body = e.body;
-    let right = has_right(grant.rights, right_for(body));
-    let covered = covers_body(grant, body);
-    (grant.subject == author) & right & covered
-}
-
-// Whether a revoke's target, at place t, suits: there is one, and the place p of P is on its line. Another kind names none. A line
-// has at most 256 places.
-fn target_suits(presented: &[u16; 256], body: Body, p: u16, t: u16) -> bool
-    ensures { result ≡ target_suits_at presented.now body p t }
-{
-    if !is_revoke(body) {
-        return true;
-    }
-    if MISSING <= t {
-        return false;
-    }
-    on_line(presented, store::PLACES, p, t)
+    grant.subject == e.author
+        && right_for(e.body).is_some_and(|q| has_right(grant.rights, q))
+        && covers_body(grant, e.body)
 }
 
 // Whether the parent at place p is sound; NONE stands for no parent.
-fn parent_sound(sound: &[u16; 256], p: u16) -> bool
+fn parent_sound(sound: &[bool; 256], p: u16) -> bool
     ensures { result ≡ parent_sound sound.now p }
 {
-    let s = tables::entry(sound, p);
-    (p == NONE) | (s == 1)
+    p == NONE || marked(sound, p)
 }
 
-fn parents_sound(named: &[u16; 1280], sound: &[u16; 256], k: u16) -> bool
-    requires { k < 256 }
+// Whether the parents of the event at place k are sound.
+fn parents_sound(named: &[u16; 1280], sound: &[bool; 256], k: u8) -> bool
     ensures { result ≡ parents_sound named.now sound.now k }
 {
-    let i = (k as usize) * NAMED_IDS;
-    let a = named[i];
-    let b = named[i + 1];
-    let c = named[i + 2];
-    parent_sound(sound, a) & parent_sound(sound, b) & parent_sound(sound, c)
+    let i = usize::from(k) * NAMED_IDS;
+    named[i..i + 3].iter().all(|p| parent_sound(sound, *p))
 }
 
-// 1 where the event at place k is sound, else 0; `sound` says which of its parents are.
-fn sound_at(
-    store: &[u8],
-    named: &[u16; 1280],
-    presented: &[u16; 256],
-    targets: &[u16; 256],
-    sound: &[u16; 256],
-    k: u16,
-) -> u16
-    requires { k < 256 }
-    ensures { result ≡ bit (sound_at store.now named.now presented.now targets.now
-        sound.now k) }
-{
-    if k == 0 {
-        return 1;
+impl<'a> Lines<'a> {
+    // For each listed place, where the ancestor stands that it presents, and the grant among its ancestors that a revoke names.
+    #[tactic(auto, using(crate::proofs::Listed::listed_low))]
+    pub fn find(
+        store: &'a [u8],
+        named: &'a [u16; 1280],
+        order: &[u16],
+        rows: &[BitRow; 256],
+    ) -> Lines<'a>
+        requires { (k : ℕ) → Memᴰ k order.now → k < 256 }
+        ensures lent { (result.store.now ≡ store.now) × (result.named.now ≡ named.now) }
+        ensures found { NamedAncestors store.now named.now rows.now order.now
+            result.presented result.targets }
+    {
+        let mut presented = [MISSING; 256];
+        let mut targets = [MISSING; 256];
+        for &place in order {
+            let k = place as u8;
+            let p = find_ancestor(named, rows, k, event::PRESENTED).unwrap_or(MISSING);
+            let t = find_target(store, named, rows, k).unwrap_or(MISSING);
+            presented[usize::from(k)] = p;
+            targets[usize::from(k)] = t;
+        }
+        Lines {
+            store,
+            named,
+            presented,
+            targets,
+        }
     }
-    if !parents_sound(named, sound, k) {
-        return 0;
-    }
-    let Presented::Gives(given) = find_presented(store, presented, k) else {
-        return 0;
-    };
-    let grant = given.grant;
-    let e = event::read(event::event_at(store, k));
-    let permitted = permits(e, grant);
-    let body = e.body;
-    let suits = target_suits(presented, body, given.place, targets[k as usize]);
-    if permitted & suits { 1 } else { 0 }
-}
 
-// Which listed places are sound (1; another place 0). The places stand behind their parents.
-pub fn authorize(
-    store: &[u8],
-    named: &[u16; 1280],
-    order: &[u16],
-    presented: &[u16; 256],
-    targets: &[u16; 256],
-    sound: &mut [u16; 256],
-)
-    requires { Ordered named.now order.now }
-    ensures { SoundTable store.now named.now presented.now targets.now
-        order.now sound.new }
-{
-    tables::clear(sound);
-    let mut i = 0;
-    while i < order.len() {
-        let k = order[i];
-        let s = sound_at(store, named, presented, targets, sound, k);
-        sound[k as usize] = s;
-        i += 1;
+    // What the event at place k presents, where that gives a grant.
+    #[tactic(auto, unfolding(crate::specs::Found::given_at, event::specs::Contents::contents_of))]
+    fn given(&self, k: u8) -> Option<Given>
+        ensures { result ≡ given_at self.now.store.now (get_or self.now.presented k 0) }
+    {
+        let p = place_held(self.presented[usize::from(k)])?;
+        given_by(p, event::read(event::event_at(self.store, p)))
+    }
+
+    // Whether the target of the event at place k suits. A revoke has one, and the place p of P is on its line; another kind names
+    // none. A line has at most 256 places.
+    #[tactic(auto, unfolding(crate::specs::Sound::target_suits_at))]
+    fn target_suits(&self, k: u8, body: Body, p: u16) -> bool
+        ensures { result ≡ target_suits_at self.now.presented body p
+            (get_or self.now.targets k 0) }
+    {
+        match body {
+            Body::Revoke => match place_held(self.targets[usize::from(k)]) {
+                Some(t) => on_line(&self.presented, store::PLACES, p, t),
+                None => false,
+            },
+            _ => true,
+        }
+    }
+
+    // Whether the event at place k is sound; `sound` says which of its parents are.
+    #[tactic(auto, using(crate::proofs::Answers::given_place), unfolding(crate::specs::Sound::sound_at, event::specs::Contents::contents_of))]
+    fn is_sound(&self, sound: &[bool; 256], k: u8) -> bool
+        ensures { result ≡ sound_at self.now.store.now self.now.named.now
+            self.now.presented self.now.targets sound.now k }
+    {
+        if k == 0 {
+            return true;
+        }
+        if !parents_sound(self.named, sound, k) {
+            return false;
+        }
+        let Some(given) = self.given(k) else {
+            return false;
+        };
+        let e = event::read(event::event_at(self.store, u16::from(k)));
+        permits(e, given.grant) && self.target_suits(k, e.body, given.place)
+    }
+
+    // Which listed places are sound. The places stand behind their parents.
+    #[tactic(auto, using(crate::proofs::Listed::listed_low))]
+    pub fn authorize(&self, order: &[u16]) -> [bool; 256]
+        requires { Ordered self.now.named.now order.now }
+        ensures { SoundTable self.now.store.now self.now.named.now self.now.presented
+            self.now.targets order.now result }
+    {
+        let mut sound = [false; 256];
+        for &place in order {
+            let k = place as u8;
+            let s = self.is_sound(&sound, k);
+            sound[usize::from(k)] = s;
+        }
+        sound
     }
 }

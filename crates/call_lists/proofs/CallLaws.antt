@@ -27,7 +27,9 @@ use Rattle.model.specs.Bundle.{bundle_good, events_in}
 use Rattle.model.specs.Store.{store_good}
 use Rattle.model.specs.StoreLaws.{Checked, Held}
 use Rattle.model.proofs.StoreLaws.{checked→, places_first, checked_held, creator→, later→}
-use Rattle.takes.specs.Takes.{Placed, stored, Left, start_of, placed, take_answer, take_of, Run, step, run_of}
+use Rattle.takes.specs.declared.Placed.{Placed}
+use Rattle.takes.specs.declared.Placed.TheVariants.{Stored}
+use Rattle.takes.specs.Takes.{Left, start_of, placed, take_answer, take_of, Run, step, run_of}
 use Rattle.takes.specs.TakeLaws.{number_in, Good, fresh_run, held_after}
 use Rattle.takes.proofs.TakeLaws.{take-answers, take_answer_good, stores←, take_places, take_stored, take_keeps, take-creator, starts←, start_held, start_creator, start_good, bundle-good}
 use Rattle.call_lists.specs.Calls.{Call, single, bundle, offers_of, offers, passes_beside, counted_events, set_of, Fits, Lent, held_by, started, after_call, after_calls, CallAnswer, of_take, answer_of_call, answers, number_of_call}
@@ -196,7 +198,7 @@ module _ (table c : Bytes) where
 
   -- the single take of an event that passes and fits beside those held is answered "stored"
   stored_next : (m : Lent) (e : Bytes) (es : List Bytes) → Kept table c m → Fits (held_by m ++ (e ∷ es)) → refusal (lent_entry table) c e ≡ none
-      → take_answer table m.store m.count e ≡ value stored
+      → take_answer table m.store m.count e ≡ value Stored
   stored_next m e es k h r =
       let a = length-append (held_by m) (e ∷ es) in
       let b = length-chunks 192 m.store m.count in
@@ -210,7 +212,7 @@ module _ (table c : Bytes) where
 
   -- the single takes are all answered "stored", and what they offer is held, last
   pub record AllStored (m : Lent) (es : List Bytes) : Type 0 where
-    pub each : answers table m (map single es) ≡ map (λ e. of_take (value stored)) es
+    pub each : answers table m (map single es) ≡ map (λ e. of_take (value Stored)) es
     pub behind : held_by (after_calls table m (map single es)) ≡ held_by m ++ es
 
   stored_all : (m : Lent) (es : List Bytes) → Kept table c m → Fits (held_by m ++ es)
@@ -282,7 +284,7 @@ answers-append table m (call ∷ before) calls =
 
 -- ── from a start ────────────────────────────────────────────────────────────────────────────────────────────────────────
 
-module _ (table buffer creator : Bytes) (starts : (start_of table buffer creator).answer ≡ value stored) where
+module _ (table buffer creator : Bytes) (starts : (start_of table buffer creator).answer ≡ value Stored) where
   -- what a list of calls leaves
   abbrev left : List Call → Lent
   left calls = after_calls table (started table buffer creator) calls
@@ -320,7 +322,7 @@ module _ (table buffer creator : Bytes) (starts : (start_of table buffer creator
   -- at most 255 further events that pass, all ids distinct: their single takes are all answered "stored", and all are held
   pub all_stored : (es : List Bytes) → length es ≤ 255 → Distinct sha256 (creator ∷ es)
       → ((e : Bytes) → Memᴰ e es → refusal (lent_entry table) creator e ≡ none)
-      → (answers table (started table buffer creator) (map single es) ≡ map (λ e. of_take (value stored)) es)
+      → (answers table (started table buffer creator) (map single es) ≡ map (λ e. of_take (value Stored)) es)
       × (held_by (left (map single es)) ≡ creator ∷ es)
   all_stored es h d r =
       let fits : Fits (creator ∷ es) = record { at_most = omega arith; distinct = d } in
@@ -357,7 +359,7 @@ passes-left table m buffer lent h t l = record { starts = starts; same_held = he
     parts : Held (lent_entry table) c others
     parts = checked_held (lent_entry table) m.store m.count bounds
 
-    starts : (start_of table buffer c).answer ≡ value stored
+    starts : (start_of table buffer c).answer ≡ value Stored
     starts =
         let create = creator→ c parts.creator-good in
         let long = length-take-le 192 m.store (omega arith) in

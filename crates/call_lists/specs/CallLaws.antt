@@ -7,7 +7,8 @@ use Rattle.lists.specs.Tests.{member_of}
 use Rattle.octets.specs.Octets.{part}
 use Rattle.sha256.specs.Sha256.{sha256}
 use Rattle.event.specs.Answers.{value}
-use Rattle.takes.specs.Takes.{stored, start_of}
+use Rattle.takes.specs.declared.Placed.TheVariants.{Stored}
+use Rattle.takes.specs.Takes.{start_of}
 use Rattle.takes.specs.TakeLaws.{Good}
 use Rattle.call_lists.specs.Calls.{Call, single, Lent, held_by, started, after_calls}
 
@@ -32,7 +33,7 @@ pub record Kept (table creator : Bytes) (m : Lent) : Type 0 where
 
 -- the held places and the count are those that a list of calls leaves
 pub record LeftBy (table : Bytes) (m : Lent) (buffer creator : Bytes) (calls : List Call) : Type 0 where
-  pub starts : (start_of table buffer creator).answer ≡ value stored
+  pub starts : (start_of table buffer creator).answer ≡ value Stored
   pub same_held : held_by (after_calls table (started table buffer creator) calls) ≡ held_by m
   pub same_count : (after_calls table (started table buffer creator) calls).count ≡ m.count
 

@@ -26,7 +26,8 @@ use Rattle.model.specs.Bundle.{trailer, packed, bundle_good}
 use Rattle.model.specs.Map.{machine, map_rows}
 use Rattle.model.specs.Examples.{map_computed}
 use Rattle.model.specs.Rows.{map_row, map_bytes}
-use Rattle.takes.specs.Takes.{stored, start_of}
+use Rattle.takes.specs.declared.Placed.TheVariants.{Stored}
+use Rattle.takes.specs.Takes.{start_of}
 use Rattle.takes.proofs.TakeLaws.{starts←}
 use Rattle.call_lists.specs.Calls.{Lent, offers_of, offers, counted_events}
 use Rattle.reports.specs.Reports.{figures_of}
@@ -37,7 +38,7 @@ use Rattle.claims.proofs.Third.{third_demand}
 
 -- ── the premises ────────────────────────────────────────────────────────────────────────────────────────────────────────
 
-starts : (buffer : Bytes) → length buffer ≡ 49152 → (start_of document_table buffer creator).answer ≡ value stored
+starts : (buffer : Bytes) → length buffer ≡ 49152 → (start_of document_table buffer creator).answer ≡ value Stored
 unfolding creator fields_computed
 starts buffer h = ap (λ x. x.answer) (starts← document_table buffer creator (record { size = h; long = refl; lent = document_good; fields = refl; create = refl }))
 

@@ -5,7 +5,8 @@ use mathlib.Core.List.{List, [], ◌∷◌}
 use Rattle.lists.specs.Bytes.{Bytes}
 use Rattle.cords.specs.DocumentTable.{document_table, document_entries, document_good}
 use Rattle.store.specs.LookUp.{look_up_of}
-use Rattle.takes.specs.Takes.{Left, Placed, start_of, take_answer, take_of, counted, Run, step, run_of, bundle_of}
+use Rattle.takes.specs.declared.Placed.{Placed}
+use Rattle.takes.specs.Takes.{Left, start_of, take_answer, take_of, counted, Run, step, run_of, bundle_of}
 use Rattle.reports.specs.Reports.{order_of, map_of, written_of, verdict_of}
 use Rattle.text.specs.Text.{text_of}
 use Rattle.claims.specs.Document.{take_by, step_by, run_by, DocumentTableKept}

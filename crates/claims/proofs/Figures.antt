@@ -31,7 +31,8 @@ use Rattle.event.specs.Answers.{value}
 use Rattle.event.specs.Checks.{refusal}
 use Rattle.model.specs.Store.{places, store_good}
 use Rattle.model.proofs.StoreLaws.{checked→, checked_held, places_first}
-use Rattle.takes.specs.Takes.{stored, repeat, take_answer, after_take, counted, Run, step, run_of}
+use Rattle.takes.specs.declared.Placed.TheVariants.{Stored, Repeat}
+use Rattle.takes.specs.Takes.{take_answer, after_take, counted, Run, step, run_of}
 use Rattle.takes.specs.TakeLaws.{Good}
 use Rattle.takes.proofs.TakeLaws.{take_by_lem, take_answer_good, take_places, take-creator, take_keeps}
 
@@ -72,10 +73,10 @@ module _ (table c : Bytes) (whole : List Bytes) (few : length whole ≤ 256)
     passes : refusal (lent_entry table) (part r.store 0 192) e ≡ none
     passes = ap (λ (x : Bytes). refusal (lent_entry table) x e) k.creator_first ∙ pass e i
 
-    again : known ≡ true → take_answer table r.store r.count e ≡ value repeat
+    again : known ≡ true → take_answer table r.store r.count e ≡ value Repeat
     again t = take_answer_good table r.store r.count e k.good ∙ rw (passes, t)
 
-    new : known ≡ false → take_answer table r.store r.count e ≡ value stored
+    new : known ≡ false → take_answer table r.store r.count e ≡ value Stored
     new f = take_answer_good table r.store r.count e k.good ∙ rw (passes, f, lt-ltb r.count 256 (room f))
 
     within-next : Within (places (step table r e).store (step table r e).count) whole
@@ -108,9 +109,9 @@ module _ (table c : Bytes) (whole : List Bytes) (few : length whole ≤ 256)
   unfolding step counted after_take
   step_rises r e k i h =
       by_bool (known r e k i)
-      (λ t. rw (take_by_lem table r.store r.count e (value repeat) (again r e k i t)) (record { by_new = refl; none_refused = refl }, omega arith))
+      (λ t. rw (take_by_lem table r.store r.count e (value Repeat) (again r e k i t)) (record { by_new = refl; none_refused = refl }, omega arith))
       (λ f.
-      rw (take_by_lem table r.store r.count e (value stored) (new r e k i f), lt-ltb r.figures.new 4294967295 h)
+      rw (take_by_lem table r.store r.count e (value Stored) (new r e k i f), lt-ltb r.figures.new 4294967295 h)
       (record { by_new = omega arith; none_refused = refl }, omega arith))
 
   pub run_rises : (r : Run) (es : List Bytes) → Running r → Within es whole → r.figures.new + length es ≤ 4294967295

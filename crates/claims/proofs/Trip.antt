@@ -30,7 +30,9 @@ use Rattle.model.specs.Bundle.{bundle_good, events_in}
 use Rattle.model.specs.Rows.{written_bytes}
 use Rattle.model.specs.Output.{overwritten}
 use Rattle.takes.specs.declared.Tally.{Tally}
-use Rattle.takes.specs.Takes.{Placed, stored, Left, Run, start_of, run_of, bundle_of}
+use Rattle.takes.specs.declared.Placed.{Placed}
+use Rattle.takes.specs.declared.Placed.TheVariants.{Stored}
+use Rattle.takes.specs.Takes.{Left, Run, start_of, run_of, bundle_of}
 use Rattle.takes.specs.TakeLaws.{Good, fresh_run, total}
 use Rattle.takes.proofs.TakeLaws.{starts←, start_held, start_creator, start_good, bundle-good, figures_total}
 use Rattle.call_lists.specs.Calls.{Fits, Lent, bundle, held_by, offers_of, offers, passes_beside, counted_events, after_call, after_calls}
@@ -116,7 +118,7 @@ module _ (table : Bytes) (m : Lent) (g : Good table m.store m.count) where
   -- ── the fresh unit ──────────────────────────────────────────────────────────────────────────────────────────────────────
 
   module _ (buffer : Bytes) (size : length buffer ≡ 49152) where
-    start_answers : (start_of table buffer c).answer ≡ value stored
+    start_answers : (start_of table buffer c).answer ≡ value Stored
     start_answers =
         let create = creator→ c held.creator-good in
         ap (λ (x : Left Placed). x.answer)

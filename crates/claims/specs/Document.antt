@@ -18,7 +18,9 @@ use Rattle.model.specs.Bundle.{bundle_good, events_in}
 use Rattle.model.specs.Store.{store_good}
 use Rattle.store.specs.LookUp.{held_ids, store_long, place_of, look_up_of}
 use Rattle.takes.specs.declared.Tally.{Tally}
-use Rattle.takes.specs.Takes.{Placed, stored, Left, start_of, checked_answer, after_take, take_of, counted, Run, no_figures, after_run, bundle_of}
+use Rattle.takes.specs.declared.Placed.{Placed}
+use Rattle.takes.specs.declared.Placed.TheVariants.{Stored}
+use Rattle.takes.specs.Takes.{Left, start_of, checked_answer, after_take, take_of, counted, Run, no_figures, after_run, bundle_of}
 use Rattle.reports.specs.Reports.{held_view, Report, report, figures_of, order_of, map_of, written_of, verdict_of}
 use Rattle.text.specs.Text.{room_text, text_of}
 
@@ -29,7 +31,7 @@ must2 store count = must 2 (store_good cord_limit store count)
 -- 1, 3, 5
 abbrev pub start_by : Bytes → Bytes → Left Placed
 start_by store e =
-    maybe (record { answer = value stored; count = 1; store = pasted store 0 e })
+    maybe (record { answer = value Stored; count = 1; store = pasted store 0 e })
     (λ n. record { answer = refused n; count = 0; store = store })
     (first_failed (must 1 (eqb (length e) 192 && store_long store) ∷ must 3 (fields_good e) ∷ must 5 (eqb (kind_of e) 0) ∷ []))
 

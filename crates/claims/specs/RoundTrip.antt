@@ -9,7 +9,8 @@ use Rattle.sha256.specs.Sha256.{sha256}
 use Rattle.cords.specs.Lent.{lent_entry, table_good}
 use Rattle.event.specs.Answers.{Answer, value, refused}
 use Rattle.model.specs.Store.{store_good}
-use Rattle.takes.specs.Takes.{stored, start_of, bundle_of}
+use Rattle.takes.specs.declared.Placed.TheVariants.{Stored}
+use Rattle.takes.specs.Takes.{start_of, bundle_of}
 use Rattle.call_lists.specs.Calls.{Lent, bundle, held_by, started, after_call}
 use Rattle.reports.specs.Reports.{written_of}
 
@@ -52,7 +53,7 @@ pub record Trip (table : Bytes) (m : Lent) (out again buffer : Bytes) : Type 0 w
   -- write-out writes
   pub written : (written_of table m.store m.count out).answer ≡ value (written_size m)
   -- the fresh unit starts
-  pub starts : (start_of table buffer (creator_of m)).answer ≡ value stored
+  pub starts : (start_of table buffer (creator_of m)).answer ≡ value Stored
   -- all events but the create event are new to it, and none is refused
   pub figures : (bundle_of table (fresh table m buffer).store (fresh table m buffer).count (written_by table m out)).answer
       ≡ value (record { new = m.count - 1; repeats = 1; refused = 0 })

@@ -16,7 +16,8 @@ use Rattle.event.specs.declared.Cord.{Cord}
 use Rattle.model.specs.Store.{event_of}
 use Rattle.model.specs.Map.{map_rows}
 use Rattle.model.specs.MapLaws.{RowBy}
-use Rattle.takes.specs.Takes.{stored, start_of}
+use Rattle.takes.specs.declared.Placed.TheVariants.{Stored}
+use Rattle.takes.specs.Takes.{start_of}
 use Rattle.call_lists.specs.Calls.{Call, Lent, counted_events, started, after_calls}
 use Rattle.reports.specs.Reports.{order_of, map_of, written_of, verdict_of}
 use Rattle.claims.specs.Told.{set_view, Tells}
@@ -36,7 +37,7 @@ counts table creator u = creator ∷ counted_events table creator u.calls
 
 -- the start answered "stored", and the counted events make the set `s`
 pub record Makes (table creator : Bytes) (s : List Bytes) (u : Given) : Type 0 where
-  pub starts : (start_of table u.buffer creator).answer ≡ value stored
+  pub starts : (start_of table u.buffer creator).answer ≡ value Stored
   pub same_set : SameMembers s (counts table creator u)
 
 -- all the premises. F-4: "What is said of two units holds where every call to either is lent one and the same table": any table; that it

@@ -37,7 +37,3 @@ ruled = refl
 pub document_bytes : length_bytes lengths ≡ document_table
 unfolding document_table
 document_bytes = ap length_bytes (sym ruled)
-
-pub lengths_long : length lengths ≡ 256
-unfolding lengths
-lengths_long = refl

@@ -1,10 +1,10 @@
 -- Laws over the words of specs/LentLaws.
 -- What check 12 passes: exactly the strings of 512 bytes whose entries are equal both ways and 0 for unlike families.
-use Rattle.std.specs.Prelude.{ℕ, zero, suc, ◌+◌, ◌*◌, ◌/◌, ◌%◌, ◌<◌, ◌≡◌, refl, Bool, true, ◌||◌, eqb, ltb, length}
+use Rattle.std.specs.Prelude.{ℕ, zero, suc, ◌+◌, ◌*◌, ◌/◌, ◌%◌, ◌<◌, ◌≡◌, refl, Bool, true, false, eqb, ltb, length}
 use Rattle.std.proofs.Common.{arith, sym, ap, ap₂, ◌∙◌}
-use Rattle.std.proofs.Math.Logic.{⊎_elim}
-use borrow.Author.Tests.{eqb-true, eqb-false, eq-eqb, ltb-true, ltb-false}
-use Rattle.lists.specs.Cases.{by_bool, bool_eq, and→, and←, or→, or←l, or←r}
+use borrow.Author.Tests.{ne_eqb, eqb-true, eqb-false, eq-eqb, ltb-true, ltb-false}
+use Rattle.std.proofs.lemmas.Bool.Decides.{nat_tests}
+use Rattle.lists.specs.Cases.{by_bool, bool_eq, and→, and←}
 use Rattle.lists.specs.Bytes.{Bytes}
 use Rattle.cords.specs.Cords.{family}
 use Rattle.cords.specs.Lent.{lent_entry, pair_good, all_below, table_good}
@@ -25,31 +25,16 @@ below← test (suc n) h = and← (all_below test n) (test n) (below← test n (�
 -- ── one pair ────────────────────────────────────────────────────────────────────────────────────────────────────────────
 
 module _ (table : Bytes) (a b : ℕ) where
-  abbrev mirror : Bool
-  mirror = eqb (lent_entry table a b) (lent_entry table b a)
-
-  abbrev unlike_zero : Bool
-  unlike_zero = eqb (family a) (family b) || eqb (lent_entry table a b) 0
-
   abbrev Pair : Type 0
   Pair = (lent_entry table a b ≡ lent_entry table b a) × ((family a ≡ family b → ⊥) → lent_entry table a b ≡ 0)
 
   pub pair→ : pair_good table a b ≡ true → Pair
   unfolding pair_good
-  pair→ t =
-      let p = and→ mirror unlike_zero t in (
-        eqb-true _ _ p.0,
-        λ unlike.
-            ⊎_elim (λ q. absurd (unlike (eqb-true _ _ q))) (λ q. eqb-true _ _ q)
-            (or→ (eqb (family a) (family b)) (eqb (lent_entry table a b) 0) p.1),
-      )
+  pair→ t = (grind (arith, nat_tests), λ unlike. grind (arith, nat_tests))
 
   pub pair← : Pair → pair_good table a b ≡ true
   unfolding pair_good
-  pair← p =
-      and← mirror unlike_zero (eq-eqb _ _ p.0)
-      (by_bool (eqb (family a) (family b)) (λ t. or←l _ _ t)
-      (λ f. or←r (eqb (family a) (family b)) _ (eq-eqb _ _ (p.1 (eqb-false _ _ f)))))
+  pair← p = grind (arith, nat_tests)
 
 -- ── the whole table ─────────────────────────────────────────────────────────────────────────────────────────────────────
 
@@ -106,3 +91,7 @@ module _ (table : Bytes) where
       bool_eq (table_good table) (all_below (row_good table) 16)
       (λ t. below← (row_good table) 16 (λ a ha. below← (λ b. pair_good table a b) a (λ b hb. good-pair (table→ t) a b ha (omega arith))))
       (λ t. table← (once_good long t))
+
+  pub wrong_length : (length table ≡ 512 → ⊥) → table_good table ≡ false
+  unfolding table_good
+  wrong_length h = rw (ne_eqb (length table) 512 h)

@@ -2,8 +2,9 @@
 
 #![tactic(auto)]
 
+use event::Refusal;
 use std::io;
-use takes::{BundleAnswer, TakeAnswer, Taken, Tally};
+use takes::{Placed, Taken, Tally};
 
 fn main(rt: HostRuntime) -> io::Result<()> {
     full_store(&rt)?;
@@ -17,21 +18,14 @@ fn full_store(rt: &impl Print) -> io::Result<()> {
     let mut store = [0u8; 49152];
     let started = takes::start(&mut store, &table, &creator);
     let mut count = started.count;
-    let mut port: u16 = 0;
-    while port < 255 {
-        let taken = offer(&mut store, count, port);
-        count = taken.count;
-        port += 1;
+    for port in 0..255 {
+        count = offer(&mut store, count, port).count;
     }
     println!(rt; "10: held {count}")?;
     print!(rt; "10: a held event: ")?;
-    let held = offer(&mut store, count, 200);
-    let answer = held.answer;
-    say(rt, answer)?;
+    say(rt, offer(&mut store, count, 200).answer)?;
     print!(rt; "10: a new event: ")?;
-    let new = offer(&mut store, count, 255);
-    let refused = new.answer;
-    say(rt, refused)
+    say(rt, offer(&mut store, count, 255).answer)
 }
 
 // "A bundle of count 0 is 12 bytes and offers nothing."
@@ -42,17 +36,15 @@ fn empty_bundle(rt: &impl Print) -> io::Result<()> {
     let started = takes::start(&mut store, &table, &creator);
     print!(rt; "11: a bundle of count 0: ")?;
     let taken = takes::take_bundle(&mut store, started.count, &table, b"\0\0\0\0\0\0\0\0BACK");
-    let answer = taken.answer;
-    match answer {
-        BundleAnswer::Figures(figures) => say_figures(rt, figures)?,
-        BundleAnswer::Refused(refusal) => say_refusal(rt, event::number(refusal))?,
+    match taken.answer {
+        Ok(figures) => say_figures(rt, figures)?,
+        Err(refusal) => say_refusal(rt, refusal)?,
     }
-    let count = taken.count;
-    println!(rt; "11: held {count}")
+    println!(rt; "11: held {}", taken.count)
 }
 
 // Takes the unplug of a port.
-fn offer(store: &mut [u8], count: usize, port: u16) -> Taken {
+fn offer(store: &mut [u8], count: usize, port: u16) -> Taken<Placed> {
     let table = cords::document_table();
     takes::take(store, count, &table, &unplug(port))
 }
@@ -62,29 +54,26 @@ fn unplug(port: u16) -> [u8; 192] {
     let mut e = [0u8; 192];
     e[0] = 4;
     e[2] = 1;
-    e[8] = (port / 256 % 4) as u8;
-    e[9] = (port % 256) as u8;
+    octets::paste(&mut e, 8, &port.to_be_bytes());
     e[96] = 7;
     e
 }
 
-fn say(rt: &impl Print, answer: TakeAnswer) -> io::Result<()> {
+fn say(rt: &impl Print, answer: Result<Placed, Refusal>) -> io::Result<()> {
     match answer {
-        TakeAnswer::Stored => println!(rt; "stored"),
-        TakeAnswer::Repeat => println!(rt; "repeat"),
-        TakeAnswer::Refused(refusal) => say_refusal(rt, event::number(refusal)),
+        Ok(Placed::Stored) => println!(rt; "stored"),
+        Ok(Placed::Repeat) => println!(rt; "repeat"),
+        Err(refusal) => say_refusal(rt, refusal),
     }
 }
 
 fn say_figures(rt: &impl Print, figures: Tally) -> io::Result<()> {
-    let Tally {
-        new,
-        repeats,
-        refused,
-    } = figures;
-    println!(rt; "figures {new} {repeats} {refused}")
+    println!(rt;
+        "figures {} {} {}",
+        figures.new, figures.repeats, figures.refused
+    )
 }
 
-fn say_refusal(rt: &impl Print, number: u8) -> io::Result<()> {
-    println!(rt; "refused {number}")
+fn say_refusal(rt: &impl Print, refusal: Refusal) -> io::Result<()> {
+    println!(rt; "refused {}", u8::from(refusal))
 }

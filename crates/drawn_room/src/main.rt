@@ -3,8 +3,9 @@
 
 #![tactic(auto)]
 
+use std::fmt::Display;
 use std::io;
-use unit::{BundleAnswer, CountAnswer, MapAnswer, Tally, VerdictAnswer};
+use unit::{Held, Refusal, Tally};
 
 // Member 1's grant a, member 2's grant b, the join j, the revokes r1 of b and r2 of a; C is the creator by member 0.
 fn main(rt: HostRuntime) -> io::Result<()> {
@@ -21,20 +22,29 @@ fn main(rt: HostRuntime) -> io::Result<()> {
     let with_b = take(&mut store, with_a, &table, &b);
     let with_j = take(&mut store, with_b, &table, &j);
     let with_r1 = take(&mut store, with_j, &table, &r1);
-    verdict(&rt, &store, with_r1, &table, &j, "5: j ")?;
+    let four = Held {
+        store: &store,
+        count: with_r1,
+        table: &table,
+    };
+    verdict(&rt, four, &j, "5: j ")?;
     let with_r2 = take(&mut store, with_r1, &table, &r2);
-    verdict(&rt, &store, with_r2, &table, &r1, "6: r1 ")?;
-    verdict(&rt, &store, with_r2, &table, &j, "6: j ")?;
-    order_and_map(&rt, &store, with_r2, &table)?;
-    held(&rt, &store, with_r2, &table, &j)?;
-    short_table(&rt, &store, with_r2, &table)?;
-    carry_over(&rt, &store, with_r2, &table, &j)
+    let held = Held {
+        store: &store,
+        count: with_r2,
+        table: &table,
+    };
+    verdict(&rt, held, &r1, "6: r1 ")?;
+    verdict(&rt, held, &j, "6: j ")?;
+    order_and_map(&rt, held)?;
+    look_up(&rt, held, &j)?;
+    short_table(&rt, held)?;
+    carry_over(&rt, held, &table, &j)
 }
 
 // The count after a take.
 fn take(store: &mut [u8; 49152], count: usize, table: &[u8; 512], e: &[u8; 192]) -> usize {
-    let taken = unit::take(store, count, table, e);
-    taken.count
+    unit::take(store, count, table, e).count
 }
 
 // An event with one parent, by an author under a grant.
@@ -73,141 +83,82 @@ fn join(author: u8, under: &[u8; 192], parent: &[u8; 192]) -> [u8; 192] {
     e
 }
 
-fn verdict(
-    rt: &impl Print,
-    store: &[u8; 49152],
-    count: usize,
-    table: &[u8; 512],
-    e: &[u8; 192],
-    name: &str,
-) -> io::Result<()> {
+fn verdict(rt: &impl Print, held: Held, e: &[u8; 192], name: &str) -> io::Result<()> {
     print!(rt; "{name}")?;
-    match unit::verdict(store, count, table, &sha256::event_id(e)) {
-        VerdictAnswer::Verdict(shown) => say(rt, shown as usize)?,
-        VerdictAnswer::Refused(refusal) => say_refusal(rt, unit::number(refusal))?,
-    }
-    println!(rt)
+    say(rt, unit::verdict(held, &sha256::event_id(e)))
 }
 
 // The number of rows of the order; rows, ended and joins of the map.
-fn order_and_map(
-    rt: &impl Print,
-    store: &[u8; 49152],
-    count: usize,
-    table: &[u8; 512],
-) -> io::Result<()> {
+fn order_and_map(rt: &impl Print, held: Held) -> io::Result<()> {
     let mut out = [0u8; 216];
     print!(rt; "order ")?;
-    say_count(rt, unit::order(store, count, table, &mut out))?;
+    say(rt, unit::order(held, &mut out))?;
     print!(rt; "map ")?;
-    match unit::map(store, count, table, &mut out) {
-        MapAnswer::Map(figures) => {
-            say(rt, figures.rows)?;
-            print!(rt; " ")?;
-            say(rt, figures.ended)?;
-            print!(rt; " ")?;
-            say(rt, figures.joins)?;
-        }
-        MapAnswer::Refused(refusal) => say_refusal(rt, unit::number(refusal))?,
+    match unit::map(held, &mut out) {
+        Ok(figures) => println!(rt; "{} {} {}", figures.rows, figures.ended, figures.joins),
+        Err(refusal) => say_refusal(rt, refusal),
     }
-    println!(rt)
 }
 
 // How many bytes of the store the look-up gives back: an event's.
-fn held(
-    rt: &impl Print,
-    store: &[u8; 49152],
-    count: usize,
-    table: &[u8; 512],
-    e: &[u8; 192],
-) -> io::Result<()> {
+fn look_up(rt: &impl Print, held: Held, e: &[u8; 192]) -> io::Result<()> {
     let mut number: u8 = 255;
-    print!(rt; "look-up ")?;
-    let part = unit::look_up(store, count, table, &sha256::event_id(e), &mut number);
-    say(rt, part.len())?;
-    print!(rt; " number ")?;
-    say(rt, number as usize)?;
-    println!(rt)
+    let part = unit::look_up(held, &sha256::event_id(e), &mut number);
+    println!(rt; "look-up {} number {number}", part.len())
 }
 
 // A cord table of 511 bytes is refused.
-fn short_table(
-    rt: &impl Print,
-    store: &[u8; 49152],
-    count: usize,
-    table: &[u8; 512],
-) -> io::Result<()> {
+fn short_table(rt: &impl Print, held: Held) -> io::Result<()> {
     let mut out = [0u8; 216];
     print!(rt; "a table of 511 bytes: ")?;
-    say_count(
-        rt,
-        unit::order(store, count, octets::part(table, 0, 511), &mut out),
-    )
+    let short = Held {
+        table: octets::part(held.table, 0, 511),
+        ..held
+    };
+    say(rt, unit::order(short, &mut out))
 }
 
 // Writes the events out as a bundle, starts a fresh unit with its first event, gives it one event, then the bundle, both with a tally,
 // and writes its text.
-fn carry_over(
-    rt: &impl Print,
-    store: &[u8; 49152],
-    count: usize,
-    table: &[u8; 512],
-    e: &[u8; 192],
-) -> io::Result<()> {
+fn carry_over(rt: &impl Print, held: Held, table: &[u8; 512], e: &[u8; 192]) -> io::Result<()> {
     let mut bundle = [0u8; 1164];
     let mut fresh = [0u8; 49152];
-    let mut number: u8 = 255;
     let mut out = [0u8; 57];
     print!(rt; "write-out ")?;
-    say_count(rt, unit::write_out(store, count, table, &mut bundle))?;
-    let creator = unit::first_event(&bundle, &mut number);
+    say(rt, unit::write_out(held, &mut bundle))?;
+    let creator = unit::first_event(&bundle).unwrap_or(&bundle[..0]);
     let started = unit::start(&mut fresh, table, creator);
-    let none = Tally {
-        new: 0,
-        repeats: 0,
-        refused: 0,
-    };
-    let first = tally::take_with(&mut fresh, started.count, table, e, none);
+    let first = tally::take_with(&mut fresh, started.count, table, e, Tally::default());
     let one = first.taken;
     let counted = tally::bundle_with(&mut fresh, one.count, table, &bundle, first.tally);
-    let taken = counted.taken;
     print!(rt; "bundle ")?;
-    say_bundle(rt, taken.answer)?;
+    match counted.taken.answer {
+        Ok(figures) => say_figures(rt, figures)?,
+        Err(refusal) => say_refusal(rt, refusal)?,
+    }
     print!(rt; "tally ")?;
     say_figures(rt, counted.tally)?;
     print!(rt; "text ")?;
-    say_count(rt, unit::text(&fresh, taken.count, table, &mut out))?;
+    let again = Held {
+        store: &fresh,
+        count: counted.taken.count,
+        table,
+    };
+    say(rt, unit::text(again, &mut out))?;
     rt.write_all(&out)
 }
 
-fn say(rt: &impl Print, n: usize) -> io::Result<()> {
-    print!(rt; "{n}")
-}
-
-fn say_refusal(rt: &impl Print, number: u8) -> io::Result<()> {
-    print!(rt; "refused {number}")
-}
-
-fn say_count(rt: &impl Print, answer: CountAnswer) -> io::Result<()> {
+fn say<A: Display + Drop>(rt: &impl Print, answer: Result<A, Refusal>) -> io::Result<()> {
     match answer {
-        CountAnswer::Count(n) => say(rt, n)?,
-        CountAnswer::Refused(refusal) => say_refusal(rt, unit::number(refusal))?,
+        Ok(value) => println!(rt; "{value}"),
+        Err(refusal) => say_refusal(rt, refusal),
     }
-    println!(rt)
 }
 
-fn say_bundle(rt: &impl Print, answer: BundleAnswer) -> io::Result<()> {
-    match answer {
-        BundleAnswer::Figures(figures) => say_figures(rt, figures),
-        BundleAnswer::Refused(refusal) => say_refusal(rt, unit::number(refusal)),
-    }
+fn say_refusal(rt: &impl Print, refusal: Refusal) -> io::Result<()> {
+    println!(rt; "refused {}", u8::from(refusal))
 }
 
 fn say_figures(rt: &impl Print, figures: Tally) -> io::Result<()> {
-    say(rt, figures.new as usize)?;
-    print!(rt; " ")?;
-    say(rt, figures.repeats as usize)?;
-    print!(rt; " ")?;
-    say(rt, figures.refused as usize)?;
-    println!(rt)
+    println!(rt; "{} {} {}", figures.new, figures.repeats, figures.refused)
 }

@@ -67,10 +67,6 @@ stored_at l s x =
     set (set (set (set x3 (l + 16) s.e) (l + 20) s.f) (l + 24) s.g) (l + 28) s.h
 
 module _ (l : ℕ) (s : State) (x : List ℕ) (hl : l < 4) (n : length x ≡ 32) where
-  pub length_stored : length (stored_at l s x) ≡ 32
-  unfolding stored_at
-  length_stored = simp length-set n
-
   -- one of them, in lane l
   one : (y : List ℕ) (j v : ℕ) → j < 8 → length y ≡ 32 → column l 8 (set y (l + j * 4) v) ≡ set (column l 8 y) j v
   one y j v h k = column_own l 8 j (l + j * 4) v y h (omega arith) refl

@@ -1,18 +1,17 @@
 -- The rounds of one lane, joined to those of FIPS 180-4.
 use mathlib.Core.Path.{◌≡◌, refl, sym, ap, ◌∙◌}
 use mathlib.Core.List.{List}
-use Prim.Native.Nat.{ℕ, zero, suc, ◌+◌, ◌*◌, ◌-◌, ◌≤◌, ◌<◌}
-use native.Mathlib.Nat.{add-zero, zero-add, add-suc, add_assoc, add-sub_cancel_left}
+use Prim.Native.Nat.{ℕ, zero, suc, ◌+◌, ◌-◌, ◌≤◌, ◌<◌}
+use native.Mathlib.Nat.{add-zero, zero-add, add-suc, add_assoc}
 use native.Mathlib.Omega.{arith}
-use lib.ListN.{length, get_or, take, drop, set}
-use Rattle.octets.specs.Octets.{part}
+use lib.ListN.{length, get_or, take, set}
 use Rattle.sha256.specs.Constants.{K}
 use Rattle.sha256.specs.Sha256.{word_at, words, extended, one_round, rounds}
 use Rattle.sha256.specs.declared.State.{State}
 use Rattle.sha256.proofs.Rounds.{words_turn}
 use Rattle.event_ids.proofs.Midway.{Midway, midway_turn, midway_end}
 use Rattle.event_ids.specs.Lanes.{schedule_at, block_at, state_at, Lane, lane_at, one_step, steps, rounds_from}
-use Rattle.event_ids.proofs.Columns.{length-column, column_own}
+use Rattle.event_ids.proofs.Columns.{length-column}
 
 -- t steps and n more
 pub steps_join : (t n : ℕ) (z : Lane) → steps 0 (t + n) z ≡ steps t n (steps 0 t z)
@@ -27,13 +26,13 @@ rounds_more t n zero w s = ap (λ (k : ℕ). rounds_from t k w s) (add-zero n)
 rounds_more t n (suc m) w s =
     rw (add-suc n m, sym (add_assoc t n m)) (ap (one_round (get_or K (t + n + m) 0) (get_or w (t + n + m) 0)) (rounds_more t n m w s))
 
--- a turn of the loop over the last rounds
-pub rounds_turn : (w : List ℕ) (z : State) (t : ℕ) {s r : State} → 48 ≤ t → s ≡ rounds_from 48 (t - 48) w z
-    → r ≡ rounds_from t 4 w s → r ≡ rounds_from 48 (t + 4 - 48) w z
-rounds_turn w z t h e f =
-    let a : t + 4 - 48 ≡ t - 48 + 4 = omega arith in
-    let b : 48 + (t - 48) ≡ t = omega arith in
-    rw a (f ∙ ap (rounds_from t 4 w) e ∙ sym (rw b at (rounds_more 48 (t - 48) 4 w z)))
+-- a turn of the loop over the rounds from one on
+pub rounds_turn : (w : List ℕ) (z : State) (from t : ℕ) {s r : State} → from ≤ t → s ≡ rounds_from from (t - from) w z
+    → r ≡ rounds_from t 4 w s → r ≡ rounds_from from (t + 4 - from) w z
+rounds_turn w z from t h e f =
+    let a : t + 4 - from ≡ t - from + 4 = omega arith in
+    let b : from + (t - from) ≡ t = omega arith in
+    rw a (f ∙ ap (rounds_from t 4 w) e ∙ sym (rw b at (rounds_more from (t - from) 4 w z)))
 
 -- t rounds of FIPS 180-4 and n more
 rounds_join : (t n : ℕ) (w : List ℕ) (z : State) → rounds (t + n) w z ≡ rounds_from t n w (rounds t w z)
@@ -74,19 +73,13 @@ rounds-whole m w s e f g =
     let join : rounds 64 w s ≡ rounds_from 48 16 w (rounds 48 w s) = rounds_join 48 16 w s in
     cc
 
--- a turn of the loop over all rounds with one schedule
-pub same_turn : (w : List ℕ) (z : State) (t : ℕ) {s r : State} → s ≡ rounds t w z → r ≡ rounds_from t 4 w s → r ≡ rounds (t + 4) w z
-same_turn w z t e f = f ∙ ap (rounds_from t 4 w) e ∙ sym (rounds_join t 4 w z)
+-- the rounds from the first on
+pub rounds-all : (w : List ℕ) (s : State) {r : State} → r ≡ rounds_from 0 64 w s → r ≡ rounds 64 w s
+unfolding rounds
+rounds-all w s e = e ∙ sym (rounds_join 0 64 w s)
 
 -- one more word of a block, in lane l
 pub load_turn : (block w w' : List ℕ) (l j : ℕ) → j < 16 → take j (schedule_at l w) ≡ words j block
     → schedule_at l w' ≡ set (schedule_at l w) j (word_at block j) → take (j + 1) (schedule_at l w') ≡ words (j + 1) block
 load_turn block w w' l j h e f =
     ap (take (j + 1)) f ∙ words_turn block (schedule_at l w) j (word_at block j) (omega (arith, length-column l 64 w)) e refl
-
--- the word j of lane l, read from a part that is written by its two ends
-pub word_stored : (s w : List ℕ) (at l j v : ℕ) → l < 4 → j < 16 → length w ≡ 256 → v ≡ word_at (take (at + 64 - at) (drop at s)) j
-    → schedule_at l (set w (l + j * 4) v) ≡ set (schedule_at l w) j (word_at (part s at 64) j)
-word_stored s w at l j v hl hj n e =
-    column_own l 64 j (l + j * 4) v w (omega arith) (omega arith) refl
-    ∙ ap (set (schedule_at l w) j) (rw (add-sub_cancel_left at 64) at e)

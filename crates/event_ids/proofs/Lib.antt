@@ -1,7 +1,6 @@
 pub mod IdTable
 pub mod Columns
 pub mod Rounds
-pub mod Sweep
 pub mod Midway
 pub mod Compression
 pub mod Events

@@ -1,8 +1,8 @@
 -- Four computations of SHA-256 side by side: of an array of words, the word j of lane l stands at l + j * 4.
-use Rattle.std.specs.Prelude.{cond, List, [], ◌∷◌, ◌++◌, ◌≡◌, ℕ, zero, suc, ◌+◌, ◌*◌, ◌/◌, ◌<◌, eqb, get_or, set, take, replicate}
+use Rattle.std.specs.Prelude.{List, [], ◌∷◌, ◌++◌, ◌≡◌, ℕ, zero, suc, ◌+◌, ◌*◌, ◌/◌, ◌<◌, get_or, set, take}
 use Rattle.sha256.specs.Constants.{K}
-use Rattle.sha256.specs.Sha256.{next_word, one_round}
-use Rattle.sha256.specs.FourthBlock.{padding_block}
+use Rattle.octets.specs.Octets.{part}
+use Rattle.sha256.specs.Sha256.{padded, message_block, next_word, one_round}
 use Rattle.sha256.specs.declared.State.{State}
 
 -- the first n words of lane l
@@ -59,12 +59,18 @@ unfoldable pub rounds_from : ℕ → ℕ → List ℕ → State → State
 rounds_from t zero w s = s
 rounds_from t (suc n) w s = one_round (get_or K (t + n) 0) (get_or w (t + n) 0) (rounds_from t n w s)
 
--- a block that is the same in each lane: the fourth is the padding, any other zeros
-abbrev pub constant_block : ℕ → List ℕ
-constant_block b = cond (eqb b 3) padding_block (replicate 64 0)
+-- of four events of 192 bytes, one behind another, that of lane l, the block b of it, and the block b of it with its padding
+abbrev pub event_at : ℕ → List ℕ → List ℕ
+event_at l events = part events (l * 192) 192
+
+abbrev pub block_of : ℕ → ℕ → List ℕ → List ℕ
+block_of l b events = part events (l * 192 + b * 64) 64
+
+abbrev pub padded_block : ℕ → ℕ → List ℕ → List ℕ
+padded_block l b events = message_block (padded (event_at l events) 1536) b
 
 -- the 64 words of k, each four times, in k4
-unfoldable pub FourTimes : List ℕ → List ℕ → Type 0
+abbrev pub FourTimes : List ℕ → List ℕ → Type 0
 FourTimes k k4 = (i : ℕ) → i < 256 → get_or k4 i 0 ≡ get_or k (i / 4) 0
 
 -- in each of the four lanes

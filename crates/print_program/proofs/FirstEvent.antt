@@ -1,43 +1,31 @@
--- What the number beside a first event tells.
-use Prim.Native.Nat.{ℕ}
-use native.Mathlib.Omega.{arith}
-use mathlib.Core.Path.{◌≡◌, refl, sym, ap, ◌∙◌}
-use mathlib.Core.List.{[]}
-use lib.Dec.{eqb}
-use lib.ListN.{get_or}
-use Rattle.lists.specs.Cases.{by_bool}
+-- What the answer to the question for a first event tells.
+use Rattle.std.specs.Prelude.{ℕ, ◌≡◌, refl, [], length}
+use Rattle.std.proofs.Common.{ap, get_or}
+use Rattle.std.specs.Borrow.{Bor}
 use Rattle.lists.specs.Bytes.{Bytes}
-use Rattle.event.specs.Answers.{Answer, value, refused, GivenPart}
-use Rattle.model.specs.Bundle.{count_in, bundle_good, events_in}
+use Rattle.octets.specs.Octets.{part_address}
+use Rattle.event.specs.Answers.{Answer, value, refused}
+use Rattle.model.specs.Bundle.{events_in}
 use Rattle.bundles.specs.FirstEvent.{first_of, first_part}
 
--- no refusal of a first event has the number 0
-not_0 : (b : Bytes) (k : ℕ) → first_of b ≡ refused k → k ≡ 0 → ⊥
-unfolding first_of
-not_0 b k e z =
-    by_bool (bundle_good b)
-    (λ good.
-    by_bool (eqb (count_in b) 0)
-    (λ t. let five : ◌≡◌ {A = Answer ℕ} (refused 5) (refused k) = rw (good, t) at e in let n : 5 ≡ k = cc in omega (arith, n, z))
-    (λ f. let v : ◌≡◌ {A = Answer ℕ} (value _) (refused k) = rw (good, f) at e in let one : ◌≡◌ {A = ℕ} 0 1 = cc in omega arith))
-    (λ bad. let eight : ◌≡◌ {A = Answer ℕ} (refused 8) (refused k) = rw bad at e in let n : 8 ≡ k = cc in omega (arith, n, z))
+module _ (b : Bor Bytes) where
+  refused_by : (n : ℕ) (a : Answer ℕ) → refused n ≡ first_part b a → a ≡ refused n
+  refused_by n (value at) e = cc
+  refused_by n (refused k) e = cc
 
-module _ (p : ℕ × ℕ) (b : Bytes) (g : GivenPart) where
-  -- a number other than 0 is the refusal's
-  refused_by : (a : Answer ℕ) → first_part p b a ≡ g → (g.number ≡ 0 → ⊥) → a ≡ refused g.number
-  refused_by (value at) e h = absurd (h (sym (ap (λ (x : GivenPart). x.number) e)))
-  refused_by (refused k) e h = ap refused (ap (λ (x : GivenPart). x.number) e)
+  -- a refusal of the first event
+  pub first_refused : (n : ℕ) → refused n ≡ first_part b (first_of b.now) → first_of b.now ≡ refused n
+  first_refused n e = refused_by n (first_of b.now) e
 
-  pub first_refused : first_part p b (first_of b) ≡ g → (g.number ≡ 0 → ⊥) → first_of b ≡ refused g.number
-  first_refused = refused_by (first_of b)
+  -- there is a first event, and the part has its bytes
+  abbrev Given : Bor Bytes → Answer ℕ → Type 0
+  Given g a = (at : ℕ) × (a ≡ value at) × (g.now ≡ get_or (events_in b.now) 0 [])
 
-  -- with 0 there is a first event, and the part has its bytes
-  abbrev Given : Type 0
-  Given = (at : ℕ) × (first_of b ≡ value at) × (g.bytes ≡ get_or (events_in b) 0 [])
+  given_by : (g : Bor Bytes) (a : Answer ℕ) → value g ≡ first_part b a → Given g a
+  given_by g (value at) e =
+      let same : g ≡ record { ref_ptr = part_address b.ref_ptr (length b.now) at; now = get_or (events_in b.now) 0 [] } = cc in
+      (at, refl, ap (λ (x : Bor Bytes). x.now) same)
+  given_by g (refused n) e = cc
 
-  given_by_lem : (a : Answer ℕ) → first_of b ≡ a → first_part p b a ≡ g → g.number ≡ 0 → Given
-  given_by_lem (value at) q e z = (at, q, sym (ap (λ (x : GivenPart). x.bytes) e))
-  given_by_lem (refused k) q e z = absurd (not_0 b k q (ap (λ (x : GivenPart). x.number) e ∙ z))
-
-  pub first_given : first_part p b (first_of b) ≡ g → g.number ≡ 0 → Given
-  first_given = given_by_lem (first_of b) refl
+  pub first_given : (g : Bor Bytes) → value g ≡ first_part b (first_of b.now) → Given g (first_of b.now)
+  first_given g e = given_by g (first_of b.now) e

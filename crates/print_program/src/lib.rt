@@ -4,19 +4,14 @@
 #![tactic(auto)]
 
 ghost use Rattle.std.specs.Prelude.{◌≡◌, ◌≤◌, length, take};
+ghost use Rattle.std.specs.Io.{ReadsAtMost};
 ghost use Rattle.print_program.specs.Page.{held_page, taken_page, started_page, page_of};
 
+use event::Refusal;
 use std::fs::File;
 use std::io::{self, Read};
 use std::rt::Files;
-use unit::{CountAnswer, TakeAnswer};
-
-// What was read of a file: so many bytes, or that a read failed.
-#[derive(Clone, Copy)]
-enum FileRead {
-    Bytes(usize),
-    Failed,
-}
+use unit::Held;
 
 // Arrays by their length alone: a long list stays out of the proofs.
 fn file_area() -> [u8; 65537]
@@ -38,13 +33,13 @@ pub fn text_area() -> [u8; 8192]
 }
 
 // Writes the text of the events held, or the line of a refusal, to the front of the output; answers how many bytes that is.
-fn write_held(store: &[u8], count: usize, table: &[u8], out: &mut [u8]) -> usize
+fn write_held(held: Held, out: &mut [u8]) -> usize
     requires { 12 ≤ length out.old }
-    ensures { take result out.new ≡ held_page table.now store.now count out.old }
+    ensures { take result out.new ≡ held_page held.entry.table.now held.entry.store.now held.entry.count out.old }
 {
-    match unit::text(store, count, table, out) {
-        CountAnswer::Count(n) => n,
-        CountAnswer::Refused(refusal) => text_format::refusal_line(unit::number(refusal), out),
+    match unit::text(held, out) {
+        Ok(n) => n,
+        Err(refusal) => text_format::refusal_line(u8::from(refusal), out),
     }
 }
 
@@ -56,7 +51,12 @@ fn write_taken(file: &[u8], store: &mut [u8], count: usize, table: &[u8], out: &
         ≡ taken_page table.now file.now store.old count out.old }
 {
     let taken = unit::take_bundle(store, count, table, file);
-    write_held(&store[..], taken.count, table, out)
+    let held = Held {
+        store: &store[..],
+        count: taken.count,
+        table,
+    };
+    write_held(held, out)
 }
 
 // Starts a unit with an event, takes the whole file into it, and writes its text.
@@ -66,11 +66,9 @@ fn write_started(file: &[u8], first: &[u8], store: &mut [u8], table: &[u8], out:
         ≡ started_page table.now file.now first.now store.old out.old }
 {
     let started = unit::start(store, table, first);
-    let answer = started.answer;
-    match answer {
-        TakeAnswer::Stored => write_taken(file, store, started.count, table, out),
-        TakeAnswer::Repeat => write_taken(file, store, started.count, table, out),
-        TakeAnswer::Refused(refusal) => text_format::refusal_line(unit::number(refusal), out),
+    match started.answer {
+        Ok(_) => write_taken(file, store, started.count, table, out),
+        Err(refusal) => text_format::refusal_line(u8::from(refusal), out),
     }
 }
 
@@ -84,13 +82,10 @@ pub fn page(file: &[u8], store: &mut [u8], out: &mut [u8]) -> usize
     if 65536 < file.len() {
         return text_format::refusal_line(8, out);
     }
-    let mut number = 0;
-    let first = unit::first_event(file, &mut number);
-    if number != 0 {
-        return text_format::refusal_line(number, out);
+    match unit::first_event(file) {
+        Ok(first) => write_started(file, first, store, &unit::document_table(), out),
+        Err(refusal) => text_format::refusal_line(u8::from(refusal), out),
     }
-    let table = unit::document_table();
-    write_started(file, first, store, &table, out)
 }
 
 // Writes the line of a refusal.
@@ -108,26 +103,26 @@ fn print_bytes(rt: &impl Print, file: &[u8]) -> io::Result<()> {
     rt.write_all(octets::part(&out, 0, n))
 }
 
-// Reads to the end of a file, or until the buffer is full. A read that fails is not taken for the end; one that a signal interrupts
-// fails too.
-fn read_file(file: &mut impl Read, buf: &mut [u8]) -> FileRead {
+// Reads until the buffer is full or the input ends; answers how many bytes that is. A read that fails is not taken for the end; one that a
+// signal interrupts fails too.
+pub fn read_full(input: &mut impl Read, buf: &mut [u8]) -> io::Result<usize>
+    ensures { ReadsAtMost result buf.new }
+{
     let mut done = 0;
     while done < buf.len() {
-        match file.read(&mut buf[done..]) {
-            Ok(0) => return FileRead::Bytes(done),
-            Ok(more) => done += more,
-            Err(_) => return FileRead::Failed,
+        let more = input.read(&mut buf[done..])?;
+        if more == 0 {
+            break;
         }
+        done += more;
     }
-    FileRead::Bytes(done)
+    Ok(done)
 }
 
 // Opens room.bun and reads it. The file is closed before anything is written.
-fn read_room(rt: &impl Files, buf: &mut [u8]) -> FileRead {
-    match File::open(rt, "room.bun") {
-        Ok(mut file) => read_file(&mut file, buf),
-        Err(_) => FileRead::Failed,
-    }
+fn read_room(rt: &impl Files, buf: &mut [u8]) -> io::Result<usize> {
+    let mut file = File::open(rt, "room.bun")?;
+    read_full(&mut file, buf)
 }
 
 // A file that is absent or cannot be read to its end is refused here: a part of a room is not printed for the whole. Of a file one
@@ -135,7 +130,7 @@ fn read_room(rt: &impl Files, buf: &mut [u8]) -> FileRead {
 pub fn print(rt: &(impl Files + Print)) -> io::Result<()> {
     let mut file = file_area();
     match read_room(rt, &mut file) {
-        FileRead::Bytes(n) => print_bytes(rt, octets::part(&file, 0, n)),
-        FileRead::Failed => refuse(rt, 8),
+        Ok(n) => print_bytes(rt, octets::part(&file, 0, n)),
+        Err(_) => refuse(rt, u8::from(Refusal::BadBundle)),
     }
 }

@@ -1,22 +1,11 @@
 -- Hash values of blocks, one after another.
 -- Assumes nothing.
-use Rattle.std.proofs.Common.{◌≡◌, ℕ, zero, suc, ◌+◌, ◌-◌, ◌*◌, ◌/◌, ◌<◌, ◌≤◌, List, ◌++◌, length, take, drop, sym, refl, ap, ◌∙◌, ap₂, add-zero, add-suc, add-one, arith, length-drop, length-take, take_all, drop-drop}
+use Rattle.std.proofs.Common.{◌≡◌, ℕ, zero, suc, ◌+◌, ◌*◌, ◌≤◌, List, ◌++◌, length, take, drop, sym, refl, ap, ◌∙◌, ap₂, add-zero, add-suc, arith, length-drop, take_all, drop-drop}
+use Rattle.std.specs.List.{fold}
+use Rattle.std.specs.Simd.{first_chunks}
 use lib.Seq.{take-append-le, drop-append-le}
 use Rattle.sha256.specs.Sha256.{message_block, compress, hash_blocks, hash_all}
 use Rattle.sha256.specs.declared.State.{State}
-
--- the part of a slice that is block i has 64 bytes
-pub part_length : (m : List ℕ) (i : ℕ) → i < length m / 64
-    → length (take (i * 64 + 64 - i * 64) (drop (i * 64) m)) ≡ 64
-part_length m i h = simp (length-take, length-drop) (omega arith)
-
--- one more block
-pub block_turn : (z : State) (m : List ℕ) (i : ℕ) {s r : State} → s ≡ hash_blocks z i m
-    → r ≡ compress s (take (i * 64 + 64 - i * 64) (drop (i * 64) m)) → r ≡ hash_blocks z (i + 1) m
-unfolding hash_blocks
-block_turn z m i {s} {r} e f =
-    let n : i * 64 + 64 - i * 64 ≡ 64 = omega arith in
-    rw add-one ((rw n at f) ∙ ap (λ (x : State). compress x (message_block m i)) e)
 
 -- what follows the blocks does not matter
 pub blocks_append : (z : State) (n : ℕ) (p q : List ℕ) → n * 64 ≤ length p → hash_blocks z n (p ++ q) ≡ hash_blocks z n p
@@ -42,7 +31,10 @@ pub one_block : (s : State) (p : List ℕ) → length p ≡ 64 → hash_all s p 
 unfolding hash_all hash_blocks
 one_block s p n = rw n (ap (compress s) (take_all 64 p (omega arith)))
 
-pub two_blocks : (s : State) (p : List ℕ) → length p ≡ 128
-    → hash_all s p ≡ compress (compress s (take 64 p)) (take 64 (drop 64 p))
-unfolding hash_all hash_blocks
-two_blocks s p n = rw n refl
+-- the blocks one after another, as chunks of the message
+pub blocks_folded : (z : State) (n : ℕ) (p : List ℕ) → fold compress z (first_chunks 64 n p) ≡ hash_blocks z n p
+unfolding hash_blocks
+blocks_folded z zero p = refl
+blocks_folded z (suc n) p =
+    let e : 1 + n ≡ suc n = omega arith in
+    blocks_folded (compress z (take 64 p)) n (drop 64 p) ∙ sym (blocks_add z 1 n p) ∙ ap (λ (k : ℕ). hash_blocks z k p) e

@@ -4,7 +4,7 @@ pub mod Rounds
 pub mod Zeros
 pub mod Rolling
 pub mod Schedule
-pub mod Stores
+pub mod Bytes
 pub mod Blocks
 pub mod Padding
 pub mod Event

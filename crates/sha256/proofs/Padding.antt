@@ -1,12 +1,15 @@
 -- A message's whole blocks, and the rest of it with the padding.
 -- Assumes nothing.
-use Rattle.std.proofs.Common.{◌≡◌, ℕ, suc, ◌+◌, ◌-◌, ◌*◌, ◌/◌, ◌%◌, ◌^◌, ◌<◌, ◌≤◌, List, ◌∷◌, ◌++◌, length, take, drop, set, replicate, sym, refl, ap, ◌∙◌, ap₂, append_assoc, arith, length-append, length-drop, length-take-le, take_all, take_at, drop_at}
+use Rattle.std.proofs.Common.{◌≡◌, ℕ, suc, ◌+◌, ◌-◌, ◌*◌, ◌/◌, ◌%◌, ◌^◌, ◌<◌, ◌≤◌, List, ◌∷◌, ◌++◌, length, take, drop, set, replicate, w64, sym, refl, ap, ◌∙◌, ap₂, append_assoc, arith, length-set, length-append, length-drop, take_all, take_at, drop_at}
 use lib.ListN.{length-replicate}
 use lib.ListN.{replicate-append-replicate}
 use lib.Seq.{drop-append-le, set_at}
-use Rattle.sha256.specs.Sha256.{word_bytes, length_bytes, zeros, padded, compress, hash_blocks, hash_all}
+use Rattle.std.specs.Int.{to_be_bytes}
+use Rattle.octets.specs.Octets.{pasted}
+use Rattle.sha256.specs.Sha256.{length_bytes, zeros, padded, hash_blocks, hash_all}
 use Rattle.sha256.specs.declared.State.{State}
-use Rattle.sha256.proofs.Blocks.{blocks_append, blocks_add, one_block, two_blocks}
+use Rattle.sha256.proofs.Blocks.{blocks_append, blocks_add}
+use Rattle.sha256.proofs.Bytes.{length_is, pasted_front}
 
 -- ---- the buffer of `hash_rest`
 
@@ -28,31 +31,18 @@ module _ (r l : List ℕ) (n : ℕ) (hn : n ≡ length r)
       ap (take at) (s ∙ t)
       ∙ take_at (r ++ 0x80 ∷ replicate k 0) (replicate j 0) at (simp (length-append, length-replicate) (omega arith))
 
-  module _ (s : State) (bits : ℕ) (u v : List ℕ) where
-    -- with the two words of the length, which stand at `at`, it is the padded rest
-    pads : (at i j : ℕ) → at ≤ 128 → at ≡ length r + suc (zeros (length r))
-        → take i u ≡ take at (set l n 0x80) ++ word_bytes (bits / 2 ^ 32) → take j v ≡ take i u ++ word_bytes (bits % 2 ^ 32)
-        → take j v ≡ padded r bits
-    unfolding padded length_bytes
-    pads at i j h e p q =
-        let b = before-length (zeros (length r)) at e h in
-        cc (append_assoc (r ++ 0x80 ∷ replicate (zeros (length r)) 0) (word_bytes (bits / 2 ^ 32)) (word_bytes (bits % 2 ^ 32)))
-
-    pub ends_one : {o : State} → length v ≡ 128 → n < 56
-        → take 60 u ≡ take 56 (set l n 0x80) ++ word_bytes (bits / 2 ^ 32) → take 64 v ≡ take 60 u ++ word_bytes (bits % 2 ^ 32)
-        → o ≡ compress s (take 64 v) → o ≡ hash_all s (padded r bits)
-    ends_one long h p q f =
-        let e : take 64 v ≡ padded r bits = pads 56 60 64 (omega arith) (omega arith) p q in
-        f ∙ ap (compress s) e
-        ∙ sym (one_block s (padded r bits) (ap length (sym e) ∙ length-take-le 64 v (omega arith)))
-
-    pub ends_two : {o₁ o₂ : State} → length v ≡ 128 → 56 ≤ n → n < 64
-        → take 124 u ≡ take 120 (set l n 0x80) ++ word_bytes (bits / 2 ^ 32) → take 128 v ≡ take 124 u ++ word_bytes (bits % 2 ^ 32)
-        → o₁ ≡ compress s (take 64 v) → o₂ ≡ compress o₁ (take 64 (drop 64 v)) → o₂ ≡ hash_all s (padded r bits)
-    ends_two long h k p q f g =
-        let e : take 128 v ≡ padded r bits = pads 120 124 128 (omega arith) (omega arith) p q in
-        let w : take 128 v ≡ v = take_all 128 v (omega arith) in
-        cc (two_blocks s v long)
+  -- with the eight bytes of the length at its end, it is the padded rest
+  pub ends : (end bits : ℕ) (v b : List ℕ) → end ≡ length r + 9 + zeros (length r) → end ≤ 128 → bits < 2 ^ 64 → b ≡ to_be_bytes w64 bits
+      → v ≡ pasted (set l n 0x80) (end - 8) b → take end v ≡ padded r bits
+  unfolding padded
+  ends end bits v b e h small eb ev =
+      let front = before-length (zeros (length r)) (end - 8) (omega arith) (omega arith) in
+      let eight : length b ≡ 8 = rw eb refl in
+      let long : length (set l n 0x80) ≡ 128 =
+      rw hl (simp (length-set, length-append, length-drop, length-replicate) (omega arith)) in
+      let whole : take end v ≡ take (end - 8) (set l n 0x80) ++ b =
+      rw ev (pasted_front (set l n 0x80) b (end - 8) end (omega arith) (omega arith)) in
+      whole ∙ rw (front, eb, length_is bits small) refl
 
 -- ---- the whole message
 

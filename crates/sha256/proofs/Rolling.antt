@@ -1,13 +1,13 @@
 -- The rounds with 16 words of the schedule at hand.
 -- Assumes nothing.
-use Rattle.std.proofs.Common.{◌≡◌, ℕ, ◌+◌, ◌-◌, ◌%◌, ◌<◌, ◌≤◌, eqb, List, [], length, get_or, set, sym, refl, ap, ◌∙◌, add-one, arith, length-set, get_or-set_other, get_or-set_same, eqb-true}
+use Rattle.std.proofs.Common.{◌≡◌, ℕ, ◌+◌, ◌-◌, ◌*◌, ◌%◌, ◌<◌, ◌≤◌, eqb, List, [], length, get_or, set, sym, refl, ap, ◌∙◌, add-one, arith, length-set, get_or-set_other, get_or-set_same, eqb-true}
 use lib.Seq.{get_or_at}
 use borrow.Author.Tests.{eqb-false}
 use Rattle.lists.specs.Cases.{by_bool}
 use Rattle.sha256.specs.Words.{◌⊞◌, σ0, σ1}
 use Rattle.sha256.specs.Constants.{K}
 use Rattle.sha256.specs.Sha256.{next_word, extended, one_round, rounds}
-use Rattle.sha256.specs.Rolling.{Grown, Rolling}
+use Rattle.sha256.specs.Rolling.{AtHand, Grown, Rolling}
 use Rattle.sha256.specs.declared.State.{State}
 use Rattle.sha256.proofs.Rounds.{round_turn, extended-length, extended_prefix}
 
@@ -87,9 +87,12 @@ module _ (x : List ℕ) (z : State) (grown : Grown x) (t i : ℕ) (few : t + 16 
 
 -- ---- the last rounds
 
-pub last_turn : (x : List ℕ) (z : State) (w : List ℕ) (s₀ : State) → Rolling x z 48 w s₀ → (i : ℕ) {s r : State} → i < 16 → s ≡ rounds (48 + i) x z
-    → r ≡ one_round (get_or K (48 + i) 0) (get_or w i 0) s → r ≡ rounds (48 + (i + 1)) x z
-last_turn x z w s₀ rolling i low e f =
-    let g : (48 + i) % 16 ≡ i = omega arith in
-    let word : get_or w i 0 ≡ get_or x (48 + i) 0 = rw g at (rolling.have i low) in
-    round_turn x z (48 + i) (48 + (i + 1)) (omega arith) e (rw word at f)
+pub last_at_hand : (x : List ℕ) (z : State) (w : List ℕ) (s : State) → Rolling x z 48 w s → (i : ℕ) → i < 4 → AtHand 16 x (48 + i * 4) 4 w
+last_at_hand x z w s rolling i low j h =
+    let e : 48 + i * 4 + j ≡ 48 + (i * 4 + j) = omega arith in
+    rw e (rolling.have (i * 4 + j) (omega arith))
+
+-- ---- the same count, written in another way
+
+pub rolling_at : {x : List ℕ} {z : State} {t u : ℕ} {w : List ℕ} {s : State} → t ≡ u → Rolling x z t w s → Rolling x z u w s
+rolling_at e r = rw e at r

@@ -1,9 +1,10 @@
 -- One turn of each loop of the compression function, as a law of lists.
 -- Assumes nothing.
-use Rattle.std.proofs.Common.{◌≡◌, ℕ, zero, suc, ◌+◌, ◌<◌, List, [], ◌∷◌, ◌++◌, length, get_or, take, set, ap, ◌∙◌, ap₂, suc-add, zero-add, add-one, arith, length-append, take-suc-set}
+use Rattle.std.proofs.Common.{◌≡◌, ℕ, zero, suc, ◌+◌, ◌%◌, ◌<◌, List, [], ◌∷◌, ◌++◌, length, get_or, take, set, ap, ◌∙◌, ap₂, suc-add, zero-add, add-one, arith, length-append, take-suc-set}
 use lib.ListN.{get_or-append}
 use Rattle.sha256.specs.Sha256.{word_at, words, extended, one_round, rounds}
 use Rattle.sha256.specs.Constants.{K}
+use Rattle.sha256.specs.Rolling.{AtHand}
 use Rattle.sha256.specs.declared.State.{State}
 
 -- one more word of the block
@@ -17,6 +18,13 @@ pub round_turn : (w : List ℕ) (z : State) (t u : ℕ) {s r : State} → u ≡ 
     → r ≡ one_round (get_or K t 0) (get_or w t 0) s → r ≡ rounds u w z
 unfolding rounds
 round_turn w z t u h e f = rw (h, add-one) (f ∙ ap (one_round (get_or K t 0) (get_or w t 0)) e)
+
+-- the same, by the words at hand
+pub held_turn : (n : ℕ) (x w : List ℕ) (z : State) (t m j u v : ℕ) {s r : State} → AtHand n x t m w → j < m → u ≡ t + j → v ≡ t + j + 1
+    → s ≡ rounds u x z → r ≡ one_round (get_or K u 0) (get_or w (u % n) 0) s → r ≡ rounds v x z
+held_turn n x w z t m j u v held low eu ev es er =
+    let word : get_or w (u % n) 0 ≡ get_or x u 0 = rw eu (held j low) in
+    round_turn x z u v (omega arith) es (rw word at er)
 
 -- ---- the schedule
 

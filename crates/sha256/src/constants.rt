@@ -1,7 +1,7 @@
 // The tables of SHA-256.
 
-// 4.2.2: the constants of the rounds, K of specs/Constants.antt.
-pub const ROUND_CONSTANTS: [u32; 64] = [
+// 4.2.2: the constants of the rounds, K of specs/Constants.antt. A static, since an index into a `const` may copy all of it.
+pub static ROUND_CONSTANTS: [u32; 64] = [
     0x428a_2f98,
     0x7137_4491,
     0xb5c0_fbcf,

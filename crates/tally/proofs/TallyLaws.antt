@@ -8,7 +8,9 @@ use Rattle.lists.specs.Bytes.{Bytes}
 use Rattle.event.specs.Answers.{Answer, value, refused, first_failed}
 use Rattle.model.specs.Bundle.{events_in}
 use Rattle.takes.specs.declared.Tally.{Tally}
-use Rattle.takes.specs.Takes.{Placed, stored, repeat, take_of, raised, counted, Run, step, run_of, no_figures, bundle_tests, bundle_of}
+use Rattle.takes.specs.declared.Placed.{Placed}
+use Rattle.takes.specs.declared.Placed.TheVariants.{Stored, Repeat}
+use Rattle.takes.specs.Takes.{take_of, raised, counted, Run, step, run_of, no_figures, bundle_tests, bundle_of}
 use Rattle.takes.specs.TakeLaws.{fresh_run}
 use Rattle.tally.specs.Tallies.{raised_by, add_figures, tallied}
 use Rattle.tally.specs.TallyLaws.{over, Fits, lent_run}
@@ -40,8 +42,8 @@ raised_more x k = by_bool (ltb (x + k) 4294967295) below at-end
 -- one answer more
 counted_more : (t f : Tally) (a : Answer Placed) → counted (add_figures t f) a ≡ add_figures t (counted f a)
 unfolding counted
-counted_more t f (value stored) = rw (raised_more t.new f.new)
-counted_more t f (value repeat) = rw (raised_more t.repeats f.repeats)
+counted_more t f (value Stored) = rw (raised_more t.new f.new)
+counted_more t f (value Repeat) = rw (raised_more t.repeats f.repeats)
 counted_more t f (refused n) = rw (raised_more t.refused f.refused)
 
 step-over : (table : Bytes) (t : Tally) (r : Run) (e : Bytes) → step table (over t r) e ≡ over t (step table r e)

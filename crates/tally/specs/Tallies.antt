@@ -3,7 +3,8 @@ use Rattle.std.specs.Prelude.{ℕ, ◌+◌, cond, ltb}
 use Rattle.lists.specs.Bytes.{Bytes}
 use Rattle.event.specs.Answers.{Answer, value, refused}
 use Rattle.takes.specs.declared.Tally.{Tally}
-use Rattle.takes.specs.Takes.{Placed, Left, take_of, counted, bundle_of}
+use Rattle.takes.specs.declared.Placed.{Placed}
+use Rattle.takes.specs.Takes.{Left, take_of, counted, bundle_of}
 
 -- a figure after k answers more: "a figure at 4,294,967,295 stays there"
 abbrev pub raised_by : ℕ → ℕ → ℕ

@@ -4,27 +4,80 @@
 #![tactic(auto)]
 
 ghost use Rattle.std.specs.Prelude.{◌≡◌};
-ghost use Rattle.takes.specs.Takes.{answer_of_bundle, taken_left, bundle_left};
-ghost use Rattle.tally.specs.Tallies.{raised_by, tallied, take_tallied, bundle_tallied};
+ghost use Rattle.event.specs.Answers.{Answer, answer_of};
+ghost use Rattle.takes.specs.declared.Tally.{Tally};
+ghost use Rattle.takes.specs.Takes.{counted, taken_left};
+ghost use Rattle.tally.specs.Tallies.{tallied, take_tallied, bundle_tallied};
 
-use takes::{BundleAnswer, BundleTaken, Taken, Tally};
+use event::Refusal;
+use takes::{Placed, Taken, Tally};
 
-// What a take gives, and the tally with its answer counted.
+// What a call answers that a tally counts.
+pub trait Countable: Copy {
+    ghost counted: { Tally → Answer Self → Tally };
+
+    // A tally with an answer.
+    fn count(answer: Result<Self, Refusal>, t: Tally) -> Tally
+        ensures { result ≡ counted t (answer_of answer) };
+}
+
+// A take raises one figure.
+impl Countable for Placed {
+    ghost counted = { counted };
+
+    fn count(answer: Result<Placed, Refusal>, t: Tally) -> Tally
+        ensures { result ≡ counted t (answer_of answer) }
+    {
+        takes::count_answer(t, answer)
+    }
+}
+
+// A bundle's figures are added, and a refused one leaves the tally. A figure stays at the largest number.
+impl Countable for Tally {
+    ghost counted = { tallied };
+
+    #[tactic(auto, unfolding(crate::specs::Tallies::tallied))]
+    fn count(answer: Result<Tally, Refusal>, t: Tally) -> Tally
+        ensures { result ≡ tallied t (answer_of answer) }
+    {
+        match answer {
+            Ok(figures) => Tally {
+                new: t.new.saturating_add(figures.new),
+                repeats: t.repeats.saturating_add(figures.repeats),
+                refused: t.refused.saturating_add(figures.refused),
+            },
+            Err(_) => t,
+        }
+    }
+}
+
+// What a call gives, and the tally with its answer counted.
 #[derive(Clone, Copy)]
-pub struct Counted {
+pub struct Counted<A> {
     pub tally: Tally,
-    pub taken: Taken,
+    pub taken: Taken<A>,
+}
+
+// Counts what a call gave in a tally by value.
+fn count<A: Countable>(taken: Taken<A>, t: Tally) -> Counted<A>
+    ensures { result ≡ record { tally = A.counted t (answer_of taken.answer); taken = taken } }
+{
+    let tally = A::count(taken.answer, t);
+    Counted { tally, taken }
 }
 
 // Takes one event and counts the answer in a tally by value.
-pub fn take_with(store: &mut [u8], count: usize, table: &[u8], e: &[u8], t: Tally) -> Counted
+pub fn take_with(
+    store: &mut [u8],
+    count: usize,
+    table: &[u8],
+    e: &[u8],
+    t: Tally,
+) -> Counted<Placed>
     ensures { take_tallied table.now store.old count e.now t
         ≡ record { left = taken_left result.taken store.new; tally = result.tally } }
 {
-    let taken = takes::take(store, count, table, e);
-    let answer = taken.answer;
-    let tally = takes::count_answer(t, answer);
-    Counted { tally, taken }
+    self::count(takes::take(store, count, table, e), t)
 }
 
 // Takes one event and counts the answer in the caller's tally.
@@ -34,45 +87,13 @@ pub fn take_counted(
     table: &[u8],
     e: &[u8],
     tally: &mut Tally,
-) -> Taken
+) -> Taken<Placed>
     ensures { take_tallied table.now store.old count e.now tally.old
         ≡ record { left = taken_left result store.new; tally = tally.exit.now } }
 {
     let done = take_with(store, count, table, e, *tally);
     *tally = done.tally;
     done.taken
-}
-
-// What a take of a bundle gives, and the tally with its figures added.
-#[derive(Clone, Copy)]
-pub struct CountedBundle {
-    pub tally: Tally,
-    pub taken: BundleTaken,
-}
-
-// A figure with k more; it stays at the largest number.
-fn raise_by(figure: u32, k: u32) -> u32
-    ensures { result ≡ raised_by figure k }
-{
-    if k < 4294967295 - figure {
-        figure + k
-    } else {
-        4294967295
-    }
-}
-
-// A tally with a bundle's answer: its figures are added, and a refused one leaves the tally.
-fn tally_answer(t: Tally, answer: BundleAnswer) -> Tally
-    ensures { result ≡ tallied t (answer_of_bundle answer) }
-{
-    match answer {
-        BundleAnswer::Figures(f) => Tally {
-            new: raise_by(t.new, f.new),
-            repeats: raise_by(t.repeats, f.repeats),
-            refused: raise_by(t.refused, f.refused),
-        },
-        BundleAnswer::Refused(_) => t,
-    }
 }
 
 // Takes a bundle and adds its figures to a tally by value.
@@ -82,14 +103,11 @@ pub fn bundle_with(
     table: &[u8],
     b: &[u8],
     t: Tally,
-) -> CountedBundle
+) -> Counted<Tally>
     ensures { bundle_tallied table.now store.old count b.now t
-        ≡ record { left = bundle_left result.taken store.new; tally = result.tally } }
+        ≡ record { left = taken_left result.taken store.new; tally = result.tally } }
 {
-    let taken = takes::take_bundle(store, count, table, b);
-    let answer = taken.answer;
-    let tally = tally_answer(t, answer);
-    CountedBundle { tally, taken }
+    self::count(takes::take_bundle(store, count, table, b), t)
 }
 
 // Takes a bundle and adds its figures to the caller's tally.
@@ -99,9 +117,9 @@ pub fn take_bundle_counted(
     table: &[u8],
     b: &[u8],
     tally: &mut Tally,
-) -> BundleTaken
+) -> Taken<Tally>
     ensures { bundle_tallied table.now store.old count b.now tally.old
-        ≡ record { left = bundle_left result store.new; tally = tally.exit.now } }
+        ≡ record { left = taken_left result store.new; tally = tally.exit.now } }
 {
     let done = bundle_with(store, count, table, b, *tally);
     *tally = done.tally;

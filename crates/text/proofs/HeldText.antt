@@ -1,8 +1,9 @@
 -- The text of the events held, by the tables of an opened store.
+use Rattle.std.specs.Prelude.{Option, Some, None, Ok, Err}
+use Rattle.std.specs.Option.{ok_or}
 use Prim.Native.Nat.{ℕ, ◌*◌, ◌≤◌}
 use native.Mathlib.Omega.{arith}
 use mathlib.Core.Path.{◌≡◌, refl, sym, ap, ◌∙◌}
-use mathlib.Core.Option.{none}
 use mathlib.Core.List.{List}
 use lib.Dec.{leb}
 use lib.ListN.{length, take, drop}
@@ -10,7 +11,8 @@ use lib.Seq.{length-take-le, take_at}
 use Rattle.lists.specs.Cases.{by_bool}
 use Rattle.lists.specs.Bytes.{Bytes}
 use Rattle.event.specs.declared.Refusal.{Refusal}
-use Rattle.event.specs.Answers.{refused, number_of, first_failed}
+use Rattle.event.specs.declared.Refusal.TheVariants.{ShortOutput}
+use Rattle.event.specs.Answers.{refused, number_of, answer_of as answer_of_result}
 use Rattle.model.specs.Verdicts.{verdict}
 use Rattle.model.specs.Map.{Link, machine}
 use Rattle.model.proofs.MapLaws.{links_few}
@@ -21,12 +23,9 @@ use Rattle.cabling.specs.declared.Ran.{Ran}
 use Rattle.cabling.specs.Ports.{link_in}
 use Rattle.cabling.specs.Rows.{row_bytes, RowsWritten}
 use Rattle.cabling.proofs.Rows.{row-bytes_size, map-bytes}
-use Rattle.text_format.specs.declared.Printed.{Printed}
 use Rattle.text_format.specs.Text.{room_text, text_of as text_of_rows, answer_of, output_of, answer_of_printed}
 use Rattle.text_format.specs.RowLaws.{Octets, text_of_store}
-use Rattle.openers.specs.declared.LinkAnswer.{LinkAnswer}
-use Rattle.openers.specs.declared.LinkAnswer.TheVariants.{Linked, Refused}
-use Rattle.openers.specs.Opened.{held_view, store_tests, number_of_linked, LinkedTables, LinkedStore}
+use Rattle.openers.specs.Opened.{held_view, LinkedTables, LinkedStore}
 use Rattle.reports.proofs.AfterStoreTests.{refused_early}
 use Rattle.reports.proofs.AfterStoreTests.{passed_store}
 use Rattle.reports.specs.Reports.{answered}
@@ -61,46 +60,44 @@ module _ {store : Bytes} {n : ℕ} {verdicts ports : List ℕ} {w : Ran} (t : Li
 
 -- ── the text ────────────────────────────────────────────────────────────────────────────────────────────────────────────
 
-module _ {table store : Bytes} {n : ℕ} {verdicts ports : List ℕ} {r : LinkAnswer}
-    (s : LinkedStore table store n verdicts ports r) (out : Bytes) where
-  abbrev text : Bytes
-  text = room_text (held_view store n)
+-- a text that has no room is refused by 10
+shown : (p : Option ℕ) → answer_of_result (ok_or p ShortOutput) ≡ answer_of_printed p
+shown (Some n) = refl
+shown None = refl
 
-  pub text-refused : (k : Refusal) → r ≡ Refused k → answered (refused (number_of k)) out ≡ text_of table store n out
+module _ {table store : Bytes} {n : ℕ} {verdicts ports : List ℕ} (out : Bytes) where
+  pub text-refused : {k : Refusal} → LinkedStore table store n verdicts ports (Err k) → answered (refused (number_of k)) out ≡ text_of table store n out
   unfolding text_of
-  text-refused k e =
-      refused_early table store n (length text) text out (number_of k) (ap number_of_linked (sym e) ∙ s.told)
+  text-refused {k} s =
+      refused_early table store n (length (room_text (held_view store n))) (room_text (held_view store n)) out (number_of k) s.told
 
-  module _ {w : Ran} (told : r ≡ Linked w) where
-    passed : none ≡ first_failed (store_tests table store n)
-    passed = ap number_of_linked (sym told) ∙ s.told
-
+  module _ {w : Ran} (s : LinkedStore table store n verdicts ports (Ok w)) where
     same : Octets table → {rows : Bytes} → rows ≡ row_bytes (machine (held_view store n)).links
-        → text_of_rows rows (take n verdicts) ≡ text
+        → text_of_rows rows (take n verdicts) ≡ room_text (held_view store n)
     same bytes {rows} e =
-        text_of_store table bytes store n (passed_store table store n passed).1.passes rows (take n verdicts)
+        text_of_store table bytes store n (passed_store table store n s.told).1.passes rows (take n verdicts)
         (e ∙ sym (map-bytes (held_view store n)))
-        (held_entries store n (λ x. verdict (held_view store n) x.ident) 0 (take n verdicts) (verdict_each (s.left w told))
-        (λ k h. entry_right (s.left w told).judged refl h))
+        (held_entries store n (λ x. verdict (held_view store n) x.ident) 0 (take n verdicts) (verdict_each (s.left w refl))
+        (λ k h. entry_right (s.left w refl).judged refl h))
 
     -- 10 decides
-    whole : answered (answer_of text out) (output_of text out) ≡ text_of table store n out
+    whole : answered (answer_of (room_text (held_view store n)) out) (output_of (room_text (held_view store n)) out) ≡ text_of table store n out
     unfolding answer_of output_of text_of
     whole =
-        let good = passed_store table store n passed in
-        by_bool (leb (length text) (length out))
+        let good = passed_store table store n s.told in
+        by_bool (leb (length (room_text (held_view store n))) (length out))
         (λ t. rw (good.0, good.1.lent, good.1.passes, t) refl)
         (λ f. rw (good.0, good.1.lent, good.1.passes, f) refl)
 
     -- p was printed of the k rows written
     pub text_told : Octets table
         → {k : ℕ} {rows₀ rows : Bytes} → RowsWritten (link_in store) ports rows₀ rows k → length rows₀ ≡ 2048
-        → {p q : Printed} {left : Bytes} → p ≡ q
+        → (p : Option ℕ) {left : Bytes}
         → (answer_of_printed p ≡ answer_of (text_of_rows (take (k * 8) rows) (take n verdicts)) out)
         × (left ≡ output_of (text_of_rows (take (k * 8) rows) (take n verdicts)) out)
-        → answered (answer_of_printed q) left ≡ text_of table store n out
-    text_told bytes wrote size e printed =
-        let here = same bytes (rows_front (s.left w told) wrote size) in
-        let answer = ap answer_of_printed (sym e) ∙ printed.0 ∙ ap (λ (b : Bytes). answer_of b out) here in
+        → answered (answer_of_result (ok_or p ShortOutput)) left ≡ text_of table store n out
+    text_told bytes wrote size p printed =
+        let here = same bytes (rows_front (s.left w refl) wrote size) in
+        let answer = shown p ∙ printed.0 ∙ ap (λ (b : Bytes). answer_of b out) here in
         let now = printed.1 ∙ ap (λ (b : Bytes). output_of b out) here in
         (λ i. answered (answer i) (now i)) ∙ whole

@@ -1,13 +1,15 @@
 -- The text written piece by piece: numbers, one piece behind another, lines, counts, and the whole.
-use Prim.Native.Nat.{ℕ, ◌+◌, ◌*◌, ◌-◌, ◌/◌, ◌%◌, ◌≤◌, ◌<◌}
+use Prim.Native.Nat.{ℕ, zero, suc, ◌+◌, ◌*◌, ◌-◌, ◌/◌, ◌%◌, ◌≤◌, ◌<◌}
 use native.Mathlib.Omega.{arith}
 use native.Mathlib.Numerals.{add-one}
 use mathlib.Core.Path.{◌≡◌, refl, sym, ap, ◌∙◌}
-use mathlib.Core.Bool.{cond}
-use mathlib.Core.List.{List, [], ◌∷◌, ◌++◌, map, map-append, flatten, append_assoc}
+use mathlib.Core.List.{List, [], ◌∷◌, ◌++◌, map, map-append, flatten, append_assoc, append-nil}
 use lib.Dec.{eqb, ltb}
-use lib.ListN.{length, get_or, take, drop, length-append, length-map, length-take, length-drop, take-append-drop, drop_of_length-le}
-use lib.Seq.{length-take-le, drop-cons}
+use lib.ListN.{length, get_or, set, replicate, length-replicate, take, drop, length-append, length-map, length-take, length-drop, take-append-drop, drop_of_length-le}
+use lib.Seq.{length-take-le, take_at, drop_at}
+use Rattle.std.specs.List.{count_by}
+use Rattle.std.proofs.lemmas.List.{drop-set, drop-drop}
+use Rattle.std.proofs.lemmas.List.Recursion.{is_count_by}
 use borrow.Author.Tests.{ltb-true, ltb-false, le-leb, lt-leb}
 use Rattle.lists.specs.Cases.{by_bool}
 use Rattle.lists.specs.Bytes.{Bytes}
@@ -32,12 +34,29 @@ use Rattle.text_format.specs.Text.{
 }
 use Rattle.text_format.specs.Steps.{leading_zeros, head_of}
 use Rattle.text_format.specs.TextLaws.{decimal_one, decimal_step}
-use Rattle.text_format.specs.Sizes.{line-length, lines-length, text_parts, text-length}
+use Rattle.text_format.specs.Sizes.{field_most, line-length, lines-length, text_parts, text-length}
 
 -- ── numbers ──────────────────────────────────────────────────────────────────────────────────────────────────────────────────
 
 last : (n : ℕ) → n < 10 → decimal n ≡ last_digit n ∷ []
 last n h = let e : n % 10 ≡ n = omega arith in decimal_one n h ∙ rw e
+
+-- the digits from the last one on, of text that has room for them
+pub digits_start : (k n : ℕ) → digits k n ++ drop k (replicate {A = ℕ} k 48) ≡ digits k n
+digits_start k n = rw (drop_of_length-le (replicate {A = ℕ} k 48) {i = k} (simp length-replicate (omega arith))) (append-nil (digits k n))
+
+pub digits_turn : (i n v : ℕ) (t : Bytes) → 0 < i → i ≤ length t → v ≡ last_digit n
+    → digits (i - 1) (n / 10) ++ drop (i - 1) (set t (i - 1) v) ≡ digits i n ++ drop i t
+unfolding digits
+digits_turn zero n v t h l e = absurd (omega arith)
+digits_turn (suc j) n v t h l e =
+    let one : suc j - 1 ≡ j = omega arith in
+    let lt : j < length t = omega arith in
+    rw (one, drop-set t j v lt, e, add-one) (sym (append_assoc (digits j (n / 10)) (last_digit n ∷ []) (drop (suc j) t)))
+
+pub digits_end : (i n : ℕ) (t : Bytes) → i ≡ 0 → t ≡ digits i n ++ drop i t
+unfolding digits
+digits_end i n t e = rw e
 
 -- of five digits those behind the zeros in front are the number
 behind_zeros : (n : ℕ) → n < 65536 → take 5 (drop (leading_zeros n) (digits 5 n)) ≡ decimal n
@@ -117,9 +136,16 @@ field_behind o d e word at k n p q h r =
     r ∙ ap (λ (b : Bytes). pasted b k (decimal n)) p
     ∙ pasted_behind o word (decimal n) at k q (omega (arith, length-append word (decimal n)))
 
-pub field-length : (word : Bytes) (n : ℕ) → length (field word n) ≡ length word + length (decimal n)
+pub field_length : (word : Bytes) (n : ℕ) → length (field word n) ≡ length word + length (decimal n)
 unfolding field
-field-length word n = length-append word (decimal n)
+field_length word n = length-append word (decimal n)
+
+-- of at most five digits, and of at most three
+pub field_five : (word : Bytes) (n : ℕ) → n < 65536 → length (field word n) ≤ length word + 5
+field_five word n h = field_most word 4 n (omega arith)
+
+pub field_three : (word : Bytes) (n : ℕ) → n < 256 → length (field word n) ≤ length word + 3
+field_three word n h = field_most word 2 n (omega arith)
 
 -- ── lines ────────────────────────────────────────────────────────────────────────────────────────────────────────────────────
 
@@ -148,6 +174,22 @@ unfolding lines flatten chunks pasted
 lines_start rows o at h =
     let e : at + 0 ≤ length o = omega arith in
     rw (le-leb (at + 0) (length o) e) (sym (take-append-drop at o))
+
+-- the row behind the first k, and what is left behind it
+pub row_next : (rows rest row left : Bytes) (k : ℕ) → rest ≡ drop (k * 8) rows → rest ≡ row ++ left → length row ≡ 8
+    → (row ≡ part rows (k * 8) 8) × (left ≡ drop ((k + 1) * 8) rows) × (k < length rows / 8)
+row_next rows rest row left k e q h =
+    let cut : drop (k * 8) rows ≡ row ++ left = sym e ∙ q in
+    let z : (k + 1) * 8 ≡ k * 8 + 8 = omega arith in
+    let size = ap length cut in (
+      sym (ap (take 8) cut ∙ take_at row left 8 h),
+      sym (rw z (rw (← drop-drop) (ap (drop 8) cut ∙ drop_at row left 8 h))),
+      omega (arith, size, length-append row left, length-drop (k * 8) rows),
+    )
+
+-- no row is left
+pub no_row : (rows rest : Bytes) (k : ℕ) → rest ≡ drop (k * 8) rows → k ≤ length rows / 8 → length rest < 8 → k ≡ length rows / 8
+no_row rows rest k e w h = let size = ap length e in omega (arith, size, length-drop (k * 8) rows)
 
 pub lines_turn : (rows o d e t : Bytes) (at i n : ℕ) → i < n → at + n * 22 ≤ length o → d ≡ pasted o at (lines rows i)
     → t ≡ row_line (row_cord (part rows (i * 8) 8)) → e ≡ pasted d (at + i * 22) t → e ≡ pasted o at (lines rows (i + 1))
@@ -186,15 +228,11 @@ line_of x a b j k m p q r s t = rw (p, q, r, s, t) (assembled-line (be16 x 0) (b
 
 -- ── counts ───────────────────────────────────────────────────────────────────────────────────────────────────────────────────
 
-pub many_turn : (k : ℕ) (l : List ℕ) (i n s : ℕ) → i < length l → how_many k l ≡ n + how_many k (drop i l)
-    → s ≡ cond (eqb (get_or l i 0) k) 1 0 → how_many k l ≡ n + s + how_many k (drop (i + 1) l)
+pub how_many_by : (k : ℕ) (l : List ℕ) → count_by (λ x. eqb x k) l ≡ how_many k l
 unfolding how_many
-many_turn k l i n s h e q =
-    e ∙ rw (add-one, drop-cons l i 0, q) (by_bool (eqb (get_or l i 0) k) (λ t. rw t (omega arith)) (λ f. rw f (omega arith)))
-
-pub many_end : (k : ℕ) (l : List ℕ) (i n : ℕ) → length l ≤ i → how_many k l ≡ n + how_many k (drop i l) → n ≡ how_many k l
-unfolding how_many
-many_end k l i n h e = let a : length (keep (λ x. eqb x k) (drop i l)) ≡ 0 = rw (drop_of_length-le l h) in omega arith
+how_many_by k l =
+    sym (is_count_by (λ (xs : List ℕ). length (keep (λ x. eqb x k) xs)) (λ x. eqb x k) refl
+    (λ x xs. by_bool (eqb x k) (λ t. rw t (omega arith)) (λ f. rw f)) l)
 
 -- ── the text ─────────────────────────────────────────────────────────────────────────────────────────────────────────────────
 
@@ -207,12 +245,12 @@ module _ (rows : Bytes) (verdicts : List ℕ) (o : Bytes) (at : ℕ) (size : at 
       let e = lt-leb (length (text_of rows verdicts)) (length o) (omega (arith, text-length rows verdicts)) in
       (rw e, rw e)
 
-  pub text-written : (b head d e : Bytes) → at + length rows / 8 * 22 ≤ length o
+  pub text_written : (b head d e : Bytes) → at + length rows / 8 * 22 ≤ length o
       → head ≡ overwritten (head_of (length rows / 8) verdicts) b → d ≡ pasted o 0 (part head 0 at)
       → e ≡ pasted d at (flatten (map row_line (rows_in rows)))
       → (value (at + length rows / 8 * 22) ≡ answer_of (text_of rows verdicts) o) × (e ≡ output_of (text_of rows verdicts) o)
   unfolding answer_of output_of
-  text-written b head d e room qh qd qe =
+  text_written b head d e room qh qd qe =
       let n = length rows / 8 in
       let h = head_of n verdicts in
       let ls = flatten (map row_line (rows_in rows)) in

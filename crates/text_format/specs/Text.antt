@@ -1,5 +1,5 @@
 -- The text of the printing program, by document 01's example 12 and the sentences under it.
-use Rattle.std.specs.Prelude.{ℕ, zero, suc, ◌+◌, ◌/◌, ◌%◌, ◌≡◌, refl, cond, eqb, leb, ltb, length}
+use Rattle.std.specs.Prelude.{ℕ, zero, suc, ◌+◌, ◌/◌, ◌%◌, ◌≡◌, refl, cond, eqb, leb, ltb, length, Option, Some, None}
 use Rattle.std.proofs.Common.{arith, ap}
 use mathlib.Core.List.{List, [], ◌∷◌, ◌++◌, map, flatten}
 use Rattle.lists.specs.Bytes.{Bytes}
@@ -13,8 +13,6 @@ use Rattle.model.specs.Heights.{View}
 use Rattle.model.specs.Verdicts.{verdict}
 use Rattle.model.specs.Map.{map_rows}
 use Rattle.model.specs.Output.{overwritten}
-use Rattle.text_format.specs.declared.Printed.{Printed}
-use Rattle.text_format.specs.declared.Printed.TheVariants.{Bytes as printed, Short as short}
 
 -- the last digit of a number, as a character ("0" is 48)
 abbrev pub last_digit : ℕ → ℕ
@@ -112,13 +110,13 @@ answer_of text out = cond (leb (length text) (length out)) (value (length text))
 unfoldable pub output_of : Bytes → Bytes → Bytes
 output_of text out = cond (leb (length text) (length out)) (overwritten text out) out
 
--- document 01's answer for each case of the code's
-abbrev pub answer_of_printed : Printed → Answer ℕ
-answer_of_printed (printed n) = value n
-answer_of_printed short = refused 10
+-- document 01's answer for each case of the code's: the number of bytes, or none where the output is too short
+abbrev pub answer_of_printed : Option ℕ → Answer ℕ
+answer_of_printed (Some n) = value n
+answer_of_printed None = refused 10
 
-pub printed_injective : (a b : Printed) → answer_of_printed a ≡ answer_of_printed b → a ≡ b
-printed_injective (printed m) (printed n) e = let same : m ≡ n = cc in ap printed same
-printed_injective (printed m) short e = let z : ◌≡◌ {A = ℕ} 0 1 = cc in absurd (omega arith)
-printed_injective short (printed n) e = let z : ◌≡◌ {A = ℕ} 0 1 = cc in absurd (omega arith)
-printed_injective short short e = refl
+pub printed_injective : (a b : Option ℕ) → answer_of_printed a ≡ answer_of_printed b → a ≡ b
+printed_injective (Some m) (Some n) e = let same : m ≡ n = cc in ap Some same
+printed_injective (Some m) None e = let z : ◌≡◌ {A = ℕ} 0 1 = cc in absurd (omega arith)
+printed_injective None (Some n) e = let z : ◌≡◌ {A = ℕ} 0 1 = cc in absurd (omega arith)
+printed_injective None None e = refl

@@ -3,7 +3,7 @@
 
 #![tactic(auto)]
 
-ghost use Rattle.std.specs.Prelude.{◌≡◌, ◌+◌, ◌*◌, ◌/◌, ◌≤◌, cond, eqb, length, take};
+ghost use Rattle.std.specs.Prelude.{◌≡◌, ◌+◌, ◌*◌, ◌/◌, ◌≤◌, length, take};
 ghost use mathlib.Core.List.{map, flatten};
 ghost use Rattle.octets.specs.Octets.{pasted};
 ghost use Rattle.model.specs.Output.{overwritten};
@@ -27,13 +27,6 @@ ghost use Rattle.text_format.specs.Steps.{leading_zeros, head_of};
 
 use cabling::ROW_BYTES;
 
-// How many bytes the text has, or that the output is too short for it.
-#[derive(Clone, Copy)]
-pub enum Printed {
-    Bytes(usize),
-    Short,
-}
-
 // The last digit of a number.
 fn digit(n: u16) -> u8
     ensures { result ≡ last_digit n }
@@ -41,37 +34,22 @@ fn digit(n: u16) -> u8
     48 + (n % 10) as u8
 }
 
-fn two_digits(n: u8) -> [u8; 2]
-    ensures { result ≡ digits 2 n }
+// The last N digits of a number, filled with zeros.
+#[tactic(auto, using(crate::proofs::TextWritten::digits_end))]
+fn digits<const N: usize>(n: u16) -> [u8; N]
+    ensures { result ≡ digits N n }
 {
-    let x = n as u16;
-    [digit(x / 10), digit(x)]
-}
-
-fn four_digits(n: u16) -> [u8; 4]
-    ensures { result ≡ digits 4 n }
-{
-    [
-        digit(n / 10 / 10 / 10),
-        digit(n / 10 / 10),
-        digit(n / 10),
-        digit(n),
-    ]
-}
-
-fn five_digits(n: u16) -> [u8; 5]
-    ensures { result ≡ digits 5 n }
-{
-    [
-        digit(n / 10 / 10 / 10 / 10),
-        digit(n / 10 / 10 / 10),
-        digit(n / 10 / 10),
-        digit(n / 10),
-        digit(n),
-    ]
+    let mut text = [b'0'; N];
+    let mut left = n;
+    for i in (0..N).rev() {
+        text[i] = digit(left);
+        left /= 10;
+    }
+    text
 }
 
 // How many zeros the five digits of a number have in front.
+#[tactic(auto, unfolding(crate::specs::Steps::leading_zeros))]
 fn leading_zeros(n: u16) -> usize
     ensures { (result ≡ leading_zeros n) × (result ≤ 4) }
 {
@@ -96,13 +74,14 @@ fn write_number(out: &mut [u8], at: usize, n: u16) -> usize
     ensures written { out.new ≡ pasted out.old at (decimal n) }
     ensures value { result ≡ at + length (decimal n) }
 {
-    let digits = five_digits(n);
+    let digits = digits::<5>(n);
     let zeros = leading_zeros(n);
     octets::paste(out, at, octets::part(&digits, zeros, 5));
     at + (5 - zeros)
 }
 
 // Writes a word and its number; answers where they end.
+#[tactic(auto, using(crate::proofs::TextWritten::field_length, crate::proofs::TextWritten::field_five))]
 fn write_field(out: &mut [u8], at: usize, word: &[u8], n: u16) -> usize
     requires { at + length (field word.now n) ≤ length out.old }
     ensures written { out.new ≡ pasted out.old at (field word.now n) }
@@ -113,6 +92,7 @@ fn write_field(out: &mut [u8], at: usize, word: &[u8], n: u16) -> usize
 }
 
 // Writes the first line to the front of the output; answers its length.
+#[tactic(auto, using(crate::proofs::TextWritten::field_five))]
 fn write_head(out: &mut [u8], links: u16, waiting: u16, unsound: u16, void: u16) -> usize
     requires { 51 ≤ length out.old }
     ensures written { out.new ≡ overwritten (head_line links waiting unsound void) out.old }
@@ -127,6 +107,8 @@ fn write_head(out: &mut [u8], links: u16, waiting: u16, unsound: u16, void: u16)
 }
 
 // Writes the line of a refusal to the front of the output; answers its length.
+// Kept, no plainer: the number is all that the line shows, and what the printing program has in its hand.
+#[tactic(auto, using(crate::proofs::TextWritten::field_three))]
 pub fn refusal_line(number: u8, out: &mut [u8]) -> usize
     requires { 12 ≤ length out.old }
     ensures value { result ≡ length (refusal_line number) }
@@ -141,11 +123,11 @@ pub fn refusal_line(number: u8, out: &mut [u8]) -> usize
 fn row_line(row: &[u8]) -> [u8; 22]
     ensures { result ≡ row_line (row_cord row.now) }
 {
-    let a = four_digits(octets::number16(row, 0));
-    let b = four_digits(octets::number16(row, 2));
-    let j = two_digits(octets::byte(row, 4));
-    let k = two_digits(octets::byte(row, 5));
-    let m = five_digits(octets::number16(row, 6));
+    let a = digits::<4>(octets::number16(row, 0));
+    let b = digits::<4>(octets::number16(row, 2));
+    let j = digits::<2>(u16::from(octets::byte(row, 4)));
+    let k = digits::<2>(u16::from(octets::byte(row, 5)));
+    let m = digits::<5>(octets::number16(row, 6));
     [
         a[0], a[1], a[2], a[3], 32, b[0], b[1], b[2], b[3], 32, j[0], j[1], 32, k[0], k[1], 32,
         m[0], m[1], m[2], m[3], m[4], 10,
@@ -160,37 +142,22 @@ fn write_lines(rows: &[u8], out: &mut [u8], at: usize)
     requires { at + length rows.now / 8 * 22 ≤ length out.old }
     ensures { out.new ≡ pasted out.old at (flatten (map row_line (rows_in rows.now))) }
 {
-    let n = rows.len() / ROW_BYTES;
-    let mut i = 0;
-    while i < n {
-        let line = row_line(octets::part(rows, i * ROW_BYTES, ROW_BYTES));
-        octets::paste(out, at + i * LINE_BYTES, &line);
-        i += 1;
+    for (i, row) in rows.chunks_exact(ROW_BYTES).enumerate() {
+        octets::paste(out, at + i * LINE_BYTES, &row_line(row));
     }
 }
 
-// 1 where two numbers are the same, else 0.
-fn same(a: u16, b: u16) -> u16
-    ensures { (result ≡ cond (eqb a b) 1 0) × (result ≤ 1) }
-{
-    if a == b { 1 } else { 0 }
-}
-
 // How many of the verdicts are k.
+#[tactic(auto, using(crate::proofs::TextWritten::how_many_by))]
 fn count(verdicts: &[u16], k: u16) -> u16
     requires { length verdicts.now ≤ 256 }
     ensures { result ≡ how_many k verdicts.now }
 {
-    let mut n = 0;
-    let mut i = 0;
-    while i < verdicts.len() {
-        n += same(verdicts[i], k);
-        i += 1;
-    }
-    n
+    verdicts.iter().filter(|verdict| **verdict == k).count() as u16
 }
 
 // Writes the first line for some links and verdicts to the front of the output; answers its length.
+#[tactic(auto, unfolding(crate::specs::Steps::head_of))]
 fn write_counts(out: &mut [u8], links: u16, verdicts: &[u16]) -> usize
     requires { (51 ≤ length out.old) × (length verdicts.now ≤ 256) }
     ensures written { out.new ≡ overwritten (head_of links verdicts.now) out.old }
@@ -202,8 +169,9 @@ fn write_counts(out: &mut [u8], links: u16, verdicts: &[u16]) -> usize
     write_head(out, links, waiting, unsound, void)
 }
 
-// Writes the text of the map call's rows and of one verdict an event to the front of the output, where it has room for all of it.
-fn write_text(rows: &[u8], verdicts: &[u16], out: &mut [u8]) -> Printed
+// Writes the text of the map call's rows and of one verdict an event to the front of the output, where it has room for all of it;
+// answers the number of its bytes.
+fn write_text(rows: &[u8], verdicts: &[u16], out: &mut [u8]) -> Option<usize>
     requires { (length rows.now ≤ 2048) × (length verdicts.now ≤ 256) }
     ensures answer { answer_of_printed result ≡ answer_of (text_of rows.now verdicts.now) out.old }
     ensures output { out.new ≡ output_of (text_of rows.now verdicts.now) out.old }
@@ -213,21 +181,22 @@ fn write_text(rows: &[u8], verdicts: &[u16], out: &mut [u8]) -> Printed
     let at = write_counts(&mut head, n as u16, verdicts);
     let size = at + n * LINE_BYTES;
     if out.len() < size {
-        return Printed::Short;
+        return None;
     }
     octets::paste(out, 0, octets::part(&head, 0, at));
     write_lines(rows, out, at);
-    Printed::Bytes(size)
+    Some(size)
 }
 
 // The same of the first n rows and the first `count` verdicts of two tables: lent as arrays, they ask their user for no length.
+// Kept, no plainer: as slices their user would cut both, and show that neither is too long.
 pub fn write_fronts(
     rows: &[u8; 2048],
     n: usize,
     verdicts: &[u16; 256],
     count: usize,
     out: &mut [u8],
-) -> Printed
+) -> Option<usize>
     requires { (n ≤ 256) × (count ≤ 256) }
     ensures answer { answer_of_printed result
         ≡ answer_of (text_of (take (n * 8) rows.now) (take count verdicts.now)) out.old }

@@ -5,11 +5,9 @@
 
 pub use bundles::first_event;
 pub use cords::document_table;
-pub use event::{Refusal, number};
-pub use reports::{
-    CountAnswer, MapAnswer, MapFigures, VerdictAnswer, map, order, verdict, write_out,
-};
-pub use store::look_up;
-pub use takes::{BundleAnswer, BundleTaken, TakeAnswer, Taken, Tally, start, take, take_bundle};
+pub use event::Refusal;
+pub use reports::{MapFigures, map, order, verdict, write_out};
+pub use store::{Held, look_up};
+pub use takes::{Placed, Taken, Tally, start, take, take_bundle};
 pub use tally::{take_bundle_counted, take_counted};
 pub use text::text;

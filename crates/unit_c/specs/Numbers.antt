@@ -1,6 +1,6 @@
 -- What a call shows to C: a number returned, and numbers behind pointers. The definitions of the calls are those of `takes`, `tally`,
 -- `store`, `reports` and `text`; here each answer is turned into numbers. The ids of events are defined here.
-use Rattle.std.specs.Prelude.{ℕ, ◌*◌, ◌/◌, ◌≡◌, refl, ◌&&◌, eqb, leb, length, get_or}
+use Rattle.std.specs.Prelude.{ℕ, ◌*◌, ◌/◌, ◌&&◌, eqb, leb, length}
 use mathlib.Core.List.{List, [], ◌∷◌, ◌++◌, map, flatten}
 use Rattle.lists.specs.Bytes.{Bytes}
 use Rattle.lists.specs.Chunks.{chunks}
@@ -8,7 +8,9 @@ use Rattle.sha256.specs.Sha256.{sha256}
 use Rattle.cords.specs.DocumentTable.{document_table}
 use Rattle.event.specs.Answers.{Answer, value, refused, shown_number, Test, must, first_failed}
 use Rattle.takes.specs.declared.Tally.{Tally}
-use Rattle.takes.specs.Takes.{Placed, stored, repeat, Left}
+use Rattle.takes.specs.declared.Placed.{Placed}
+use Rattle.takes.specs.Takes.{Left}
+use Rattle.takes.specs.Numbers.{placed_number, figure_list}
 use Rattle.tally.specs.Tallies.{Tallied}
 use Rattle.reports.specs.declared.MapFigures.{MapFigures}
 use Rattle.reports.specs.Reports.{Report, report}
@@ -21,21 +23,6 @@ version = 20000
 abbrev pub kept : {A B : Type 0} → (A → B) → B → Answer A → B
 kept shown before (value a) = shown a
 kept shown before (refused n) = before
-
--- a take's value: 0 stored, 1 repeat
-abbrev pub placed_number : Placed → ℕ
-placed_number stored = 0
-placed_number repeat = 1
-
--- a tally as three numbers in a row, and back
-abbrev pub figure_list : Tally → List ℕ
-figure_list t = t.new ∷ t.repeats ∷ t.refused ∷ []
-
-abbrev pub tally_in : List ℕ → Tally
-tally_in l = record { new = get_or l 0 0; repeats = get_or l 1 0; refused = get_or l 2 0 }
-
-pub tally_back : (t : Tally) → tally_in (figure_list t) ≡ t
-tally_back t = refl
 
 -- what a call shows: the number that it returns, the store or the output that it leaves ([] where it writes neither), and the numbers behind
 -- pointers, in the order of its parameters

@@ -7,18 +7,16 @@
 #![tactic(auto)]
 
 ghost use Rattle.std.specs.Prelude.{◌≡◌, [], ◌∷◌, ◌++◌};
-ghost use Rattle.event.specs.Answers.{shown_number};
+ghost use Rattle.event.specs.Answers.{answer_of, shown_number};
 ghost use Rattle.store.specs.LookUp.{look_up_of};
 ghost use Rattle.bundles.specs.FirstEvent.{first_of};
-ghost use Rattle.takes.specs.Takes.{answer_of_take, answer_of_bundle, start_of, take_of, bundle_of};
+ghost use Rattle.takes.specs.Numbers.{placed_number, figure_list, tally_in};
+ghost use Rattle.takes.specs.Takes.{start_of, take_of, bundle_of};
 ghost use Rattle.tally.specs.Tallies.{take_tallied, bundle_tallied};
-ghost use Rattle.reports.specs.Reports.{order_of, verdict_of, map_of, written_of, answer_of_count};
+ghost use Rattle.reports.specs.Reports.{order_of, verdict_of, map_of, written_of};
 ghost use Rattle.text.specs.Text.{text_of};
 ghost use Rattle.unit_c.specs.Numbers.{
   kept,
-  placed_number,
-  figure_list,
-  tally_in,
   show_value,
   show_count,
   show_output,
@@ -33,9 +31,8 @@ ghost use Rattle.unit_c.specs.Numbers.{
   version,
 };
 
-use bundles::FirstAnswer;
-use store::FindAnswer;
-use unit::{BundleAnswer, CountAnswer, MapAnswer, TakeAnswer, Tally, VerdictAnswer};
+use event::{EVENT_BYTES, ID_BYTES};
+use unit::{Held, Refusal, Tally};
 
 // The version of these functions; the header has the same (`PELCHUNDA_VERSION_NUMBER`).
 const VERSION: u32 = 20000;
@@ -48,66 +45,17 @@ pub extern "C" fn pelchunda_version() -> u32
     VERSION
 }
 
-// A take's answer: `repeat` is 0 where the event was stored, 1 where its id is held already.
-fn show_placed(answer: TakeAnswer, repeat: &mut u8) -> u8
-    ensures number { result ≡ shown_number (answer_of_take answer) }
-    ensures repeat { repeat.new ≡ kept placed_number repeat.old (answer_of_take answer) }
+// An answer: 0 and its value, or the refusal's number, which leaves what stood there.
+fn show<A: Copy>(answer: Result<A, Refusal>, value: &mut A) -> u8
+    ensures number { result ≡ shown_number (answer_of answer) }
+    ensures value { value.new ≡ kept (λ a. a) value.old (answer_of answer) }
 {
     match answer {
-        TakeAnswer::Stored => {
-            *repeat = 0;
+        Ok(found) => {
+            *value = found;
             0
         }
-        TakeAnswer::Repeat => {
-            *repeat = 1;
-            0
-        }
-        TakeAnswer::Refused(refusal) => unit::number(refusal),
-    }
-}
-
-// Three figures as a tally, and back.
-fn to_tally(figures: [u32; 3]) -> Tally
-    ensures { result ≡ tally_in figures }
-{
-    Tally {
-        new: figures[0],
-        repeats: figures[1],
-        refused: figures[2],
-    }
-}
-
-fn to_figures(t: Tally) -> [u32; 3]
-    ensures { result ≡ figure_list t }
-{
-    [t.new, t.repeats, t.refused]
-}
-
-// A bundle's answer: its three figures.
-fn show_figures(answer: BundleAnswer, figures: &mut [u32; 3]) -> u8
-    ensures number { result ≡ shown_number (answer_of_bundle answer) }
-    ensures figures { figures.new ≡ kept figure_list figures.old (answer_of_bundle answer) }
-{
-    match answer {
-        BundleAnswer::Figures(f) => {
-            *figures = to_figures(f);
-            0
-        }
-        BundleAnswer::Refused(refusal) => unit::number(refusal),
-    }
-}
-
-// An answer that is one number.
-fn show_count(answer: CountAnswer, count: &mut usize) -> u8
-    ensures number { result ≡ shown_number (answer_of_count answer) }
-    ensures count { count.new ≡ kept (λ n. n) count.old (answer_of_count answer) }
-{
-    match answer {
-        CountAnswer::Count(n) => {
-            *count = n;
-            0
-        }
-        CountAnswer::Refused(refusal) => unit::number(refusal),
+        Err(refusal) => u8::from(refusal),
     }
 }
 
@@ -137,11 +85,9 @@ pub extern "C" fn pelchunda_start(
 {
     let started = unit::start(store, table, event);
     *count = started.count;
-    let answer = started.answer;
-    match answer {
-        TakeAnswer::Stored => 0,
-        TakeAnswer::Repeat => 0,
-        TakeAnswer::Refused(refusal) => unit::number(refusal),
+    match started.answer {
+        Ok(_) => 0,
+        Err(refusal) => u8::from(refusal),
     }
 }
 
@@ -159,8 +105,7 @@ pub extern "C" fn pelchunda_take(
 {
     let taken = unit::take(store, *count, table, event);
     *count = taken.count;
-    let answer = taken.answer;
-    show_placed(answer, repeat)
+    show(taken.answer.map(u8::from), repeat)
 }
 
 // Takes one event and counts the answer in a tally of three figures: new, repeats, refused.
@@ -177,14 +122,10 @@ pub extern "C" fn pelchunda_take_counted(
         (take_tallied table.now store.old count.old event.now (tally_in tally.old))
         ≡ record { number = result; buffer = store.new; behind = count.new ∷ repeat.new ∷ tally.new } }
 {
-    let before = to_tally(*tally);
-    let done = tally::take_with(store, *count, table, event, before);
-    let after = done.tally;
-    *tally = to_figures(after);
-    let taken = done.taken;
-    *count = taken.count;
-    let answer = taken.answer;
-    show_placed(answer, repeat)
+    let done = tally::take_with(store, *count, table, event, Tally::from(*tally));
+    *tally = done.tally.into();
+    *count = done.taken.count;
+    show(done.taken.answer.map(u8::from), repeat)
 }
 
 // Takes each event of a bundle: how many were new, repeats and refused.
@@ -200,10 +141,9 @@ pub extern "C" fn pelchunda_take_bundle(
         (bundle_of table.now store.old count.old bundle.now)
         ≡ record { number = result; buffer = store.new; behind = count.new ∷ figures.new } }
 {
-    let left = unit::take_bundle(store, *count, table, bundle);
-    *count = left.count;
-    let answer = left.answer;
-    show_figures(answer, figures)
+    let taken = unit::take_bundle(store, *count, table, bundle);
+    *count = taken.count;
+    show(taken.answer.map(Tally::into), figures)
 }
 
 // Takes each event of a bundle and adds its figures to a tally.
@@ -220,14 +160,10 @@ pub extern "C" fn pelchunda_take_bundle_counted(
         (bundle_tallied table.now store.old count.old bundle.now (tally_in tally.old))
         ≡ record { number = result; buffer = store.new; behind = count.new ∷ (figures.new ++ tally.new) } }
 {
-    let before = to_tally(*tally);
-    let done = tally::bundle_with(store, *count, table, bundle, before);
-    let after = done.tally;
-    *tally = to_figures(after);
-    let taken = done.taken;
-    *count = taken.count;
-    let answer = taken.answer;
-    show_figures(answer, figures)
+    let done = tally::bundle_with(store, *count, table, bundle, Tally::from(*tally));
+    *tally = done.tally.into();
+    *count = done.taken.count;
+    show(done.taken.answer.map(Tally::into), figures)
 }
 
 // Writes a row of 36 bytes for each settled event, in order; `rows` is their number.
@@ -242,8 +178,12 @@ pub extern "C" fn pelchunda_order(
     ensures { show_count rows.old (order_of table.now store.now count out.old)
         ≡ record { number = result; buffer = out.new; behind = rows.new ∷ [] } }
 {
-    let answer = unit::order(store, count, table, out);
-    show_count(answer, rows)
+    let held = Held {
+        store,
+        count,
+        table,
+    };
+    show(unit::order(held, out), rows)
 }
 
 // Writes a row of 8 bytes for each link, by port A: the number of rows, the links ended and the joins run.
@@ -261,14 +201,19 @@ pub extern "C" fn pelchunda_map(
         (map_of table.now store.now count out.old)
         ≡ record { number = result; buffer = out.new; behind = rows.new ∷ ended.new ∷ joins.new ∷ [] } }
 {
-    match unit::map(store, count, table, out) {
-        MapAnswer::Map(figures) => {
+    let held = Held {
+        store,
+        count,
+        table,
+    };
+    match unit::map(held, out) {
+        Ok(figures) => {
             *rows = figures.rows;
             *ended = figures.ended;
             *joins = figures.joins;
             0
         }
-        MapAnswer::Refused(refusal) => unit::number(refusal),
+        Err(refusal) => u8::from(refusal),
     }
 }
 
@@ -284,8 +229,12 @@ pub extern "C" fn pelchunda_write_out(
     ensures { show_count bytes.old (written_of table.now store.now count out.old)
         ≡ record { number = result; buffer = out.new; behind = bytes.new ∷ [] } }
 {
-    let answer = unit::write_out(store, count, table, out);
-    show_count(answer, bytes)
+    let held = Held {
+        store,
+        count,
+        table,
+    };
+    show(unit::write_out(held, out), bytes)
 }
 
 // Writes the text of the events held to the output; `bytes` is its length.
@@ -300,8 +249,12 @@ pub extern "C" fn pelchunda_text(
     ensures { show_count bytes.old (text_of table.now store.now count out.old)
         ≡ record { number = result; buffer = out.new; behind = bytes.new ∷ [] } }
 {
-    let answer = unit::text(store, count, table, out);
-    show_count(answer, bytes)
+    let held = Held {
+        store,
+        count,
+        table,
+    };
+    show(unit::text(held, out), bytes)
 }
 
 // The place of the held event with an id: its 192 bytes start at 192 times the place.
@@ -316,13 +269,12 @@ pub extern "C" fn pelchunda_look_up(
     ensures { show_value place.old (look_up_of table.now store.now count id.now)
         ≡ record { number = result; buffer = []; behind = place.new ∷ [] } }
 {
-    match store::find(store, count, table, id) {
-        FindAnswer::Place(found) => {
-            *place = found;
-            0
-        }
-        FindAnswer::Refused(refusal) => unit::number(refusal),
-    }
+    let held = Held {
+        store,
+        count,
+        table,
+    };
+    show(store::find(held, id), place)
 }
 
 // The verdict of the held event with an id: 0 waiting, 1 unsound, 2 void, 3 effective.
@@ -337,13 +289,12 @@ pub extern "C" fn pelchunda_verdict(
     ensures { show_value verdict.old (verdict_of table.now store.now count id.now)
         ≡ record { number = result; buffer = []; behind = verdict.new ∷ [] } }
 {
-    match unit::verdict(store, count, table, id) {
-        VerdictAnswer::Verdict(found) => {
-            *verdict = found;
-            0
-        }
-        VerdictAnswer::Refused(refusal) => unit::number(refusal),
-    }
+    let held = Held {
+        store,
+        count,
+        table,
+    };
+    show(unit::verdict(held, id), verdict)
 }
 
 // Where the first event of a bundle starts: its 192 bytes are at that offset.
@@ -352,13 +303,7 @@ pub extern "C" fn pelchunda_first_event(bundle: &[u8], offset: &mut usize) -> u8
     ensures { show_value offset.old (first_of bundle.now)
         ≡ record { number = result; buffer = []; behind = offset.new ∷ [] } }
 {
-    match bundles::find_first(bundle) {
-        FirstAnswer::Offset(at) => {
-            *offset = at;
-            0
-        }
-        FirstAnswer::Refused(refusal) => unit::number(refusal),
-    }
+    show(bundles::find_first(bundle), offset)
 }
 
 // Writes the id of an event to the front of `id`: the SHA-256 of its 192 bytes.
@@ -366,10 +311,10 @@ pub extern "C" fn pelchunda_first_event(bundle: &[u8], offset: &mut usize) -> u8
 pub extern "C" fn pelchunda_id(event: &[u8], id: &mut [u8]) -> u8
     ensures { show_output (id_of event.now id.old) ≡ record { number = result; buffer = id.new; behind = [] } }
 {
-    if event.len() != event::EVENT_BYTES {
+    if event.len() != EVENT_BYTES {
         return 1;
     }
-    if id.len() < event::ID_BYTES {
+    if id.len() < ID_BYTES {
         return 10;
     }
     let digest = sha256::event_id(event);
@@ -382,11 +327,11 @@ pub extern "C" fn pelchunda_id(event: &[u8], id: &mut [u8]) -> u8
 pub extern "C" fn pelchunda_ids(events: &[u8], ids: &mut [u8]) -> u8
     ensures { show_output (ids_of events.now ids.old) ≡ record { number = result; buffer = ids.new; behind = [] } }
 {
-    let n = events.len() / event::EVENT_BYTES;
-    if !((events.len() == n * event::EVENT_BYTES) & (n <= bundles::MOST_EVENTS)) {
+    let n = events.len() / EVENT_BYTES;
+    if !((events.len() == n * EVENT_BYTES) & (n <= bundles::MOST_EVENTS)) {
         return 1;
     }
-    if ids.len() < n * event::ID_BYTES {
+    if ids.len() < n * ID_BYTES {
         return 10;
     }
     event_ids::find_ids(events, n, ids);

@@ -5,7 +5,7 @@
 
 ghost use Rattle.std.specs.Prelude.{◌<◌, ◌≤◌, length};
 
-use std::io;
+use std::{array, io};
 
 fn main(rt: HostRuntime) -> io::Result<()> {
     standard_examples(&rt)?;
@@ -15,9 +15,9 @@ fn main(rt: HostRuntime) -> io::Result<()> {
     lengths(&rt, &text, 118, 130)?;
     lengths(&rt, &text, 190, 194)?;
     lengths(&rt, &text, 255, 258)?;
-    event(&rt, &text[0..191])?;
-    event(&rt, &text[0..192])?;
-    event(&rt, &text[0..193])?;
+    for n in 191..194 {
+        event(&rt, &text[..n])?;
+    }
     let full = events(192);
     tables(&rt, &full, 9)?;
     table(&rt, &full[0..1060], 9)?;
@@ -41,23 +41,15 @@ fn standard_examples(rt: &impl Print) -> io::Result<()> {
 
 // The message of which `lengths` takes the first n bytes.
 fn text() -> [u8; 258] {
-    let mut bytes = [0u8; 258];
-    let mut i = 0;
-    while i < 258 {
-        bytes[i] = ((i * 7 + 3) % 256) as u8;
-        i += 1;
-    }
-    bytes
+    array::from_fn(|i| ((i * 7 + 3) % 256) as u8)
 }
 
 // The digest of the first n bytes of text, for each n from first to last.
 fn lengths(rt: &impl Print, text: &[u8], first: usize, last: usize) -> io::Result<()>
     requires { last ≤ length text.now }
 {
-    let mut n = first;
-    while n <= last {
+    for n in first..=last {
         digest(rt, &text[..n])?;
-        n += 1;
     }
     Ok(())
 }
@@ -75,13 +67,7 @@ fn event(rt: &impl Print, message: &[u8]) -> io::Result<()> {
 
 // Nine events, no two the same. From the byte n on each is zeros, but the fifth.
 fn events(n: usize) -> [u8; 1728] {
-    let mut bytes = [0u8; 1728];
-    let mut i = 0;
-    while i < 1728 {
-        bytes[i] = event_byte(i, n);
-        i += 1;
-    }
-    bytes
+    array::from_fn(|i| event_byte(i, n))
 }
 
 fn event_byte(i: usize, n: usize) -> u8
@@ -98,10 +84,8 @@ fn event_byte(i: usize, n: usize) -> u8
 fn tables(rt: &impl Print, events: &[u8], last: usize) -> io::Result<()>
     requires { last ≤ 9 }
 {
-    let mut n = 0;
-    while n <= last {
+    for n in 0..=last {
         table(rt, events, n)?;
-        n += 1;
     }
     Ok(())
 }
@@ -112,22 +96,17 @@ fn table(rt: &impl Print, events: &[u8], n: usize) -> io::Result<()>
 {
     let mut ids = [0u8; 320];
     event_ids::find_ids(events, n, &mut ids);
-    let mut i = 0;
-    while i <= n {
+    for id in ids.chunks(32).take(n + 1) {
         print!(rt; "ids ")?;
-        show(rt, n, octets::part(&ids, i * 32, 32))?;
-        i += 1;
+        show(rt, n, id)?;
     }
     Ok(())
 }
 
 fn show(rt: &impl Print, number: usize, bytes: &[u8]) -> io::Result<()> {
     print!(rt; "{number} ")?;
-    let mut i = 0;
-    while i < bytes.len() {
-        let byte = octets::byte(bytes, i);
+    for byte in bytes {
         print!(rt; "{byte:02x}")?;
-        i += 1;
     }
-    print!(rt; "\n")
+    println!(rt;)
 }

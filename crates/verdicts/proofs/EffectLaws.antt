@@ -43,6 +43,7 @@ use Rattle.authority.specs.Lines.{Authority}
 use Rattle.authority.proofs.AuthorityLaws.{revoke_other}
 use Rattle.authority.specs.PlaceLaws.{Tables, few, found, level_is, level_of_lem, lower}
 use Rattle.verdicts.specs.Effects.{Within, Graded, Struck, Effects}
+use Rattle.tables.specs.declared.BitRow.{BitRow}
 use Rattle.tables.specs.Filling.{Filled}
 use Rattle.verdicts.specs.Verdicts.{rank_of, verdict_of}
 
@@ -50,8 +51,8 @@ use Rattle.verdicts.specs.Verdicts.{rank_of, verdict_of}
 unfoldable pub on_line : Bytes → ℕ → ℕ → ℕ → Bool
 on_line store n k t = ltb t n && member_of (id_of store t) (line (view (held_in store n)) (id_of store k))
 
-module _ {store : Bytes} {n : ℕ} {ids : Bytes} {index P T M Q G : List ℕ}
-    (tables : Tables store n ids index P T M Q G) (S : List ℕ) (auth : Authority store n Q G S) where
+module _ {store : Bytes} {n : ℕ} {ids : Bytes} {index P T : List ℕ} {M : List BitRow} {Q G : List ℕ}
+    (tables : Tables store n ids index P T M Q G) (S : List Bool) (auth : Authority store n Q G S) where
   abbrev held : List Event
   held = held_in store n
 
@@ -66,12 +67,6 @@ module _ {store : Bytes} {n : ℕ} {ids : Bytes} {index P T M Q G : List ℕ}
     low : k < n
     not_first : k ≡ 0 → ⊥
     is_sound : sound seen (id_of store k) ≡ true
-
-  sound→one : (k : ℕ) → k < n → sound seen (id_of store k) ≡ true → get_or S k 0 ≡ 1
-  sound→one k h t = eqb-true (get_or S k 0) 1 (auth.sound_is k h ∙ t)
-
-  one→sound : (k : ℕ) → k < n → get_or S k 0 ≡ 1 → sound seen (id_of store k) ≡ true
-  one→sound k h t = sym (auth.sound_is k h) ∙ eq-eqb (get_or S k 0) 1 t
 
   no_create : (k : ℕ) → k < n → (k ≡ 0 → ⊥) → is_create (held_at store k) ≡ false
   no_create k h ne = kind_other (event_at store k) (later tables.levelled.loaded k h ne).no_create
@@ -223,7 +218,7 @@ module _ {store : Bytes} {n : ℕ} {ids : Bytes} {index P T M Q G : List ℕ}
 
     rank_is : (k : ℕ) → Later k → get_or R k 0 ≡ get_or T (get_or Q k 0) 0
     unfolding rank_of
-    rank_is k a = ranks.entry k a.low ∙ rw (ne_eqb k 0 a.not_first, eq-eqb (get_or S k 0) 1 (sound→one k a.low a.is_sound))
+    rank_is k a = ranks.entry k a.low ∙ rw (ne_eqb k 0 a.not_first, auth.sound_is k a.low, a.is_sound)
 
     -- exactly the sound places other than the creator's
     in_list : (k : ℕ) → Later k → Memᴰ k by_rank
@@ -238,8 +233,8 @@ module _ {store : Bytes} {n : ℕ} {ids : Bytes} {index P T M Q G : List ℕ}
     of-list k m =
         by_bool (eqb k 0)
         (λ t. none (ranks.entry k h ∙ rw t))
-        (λ f. by_bool (eqb (get_or S k 0) 1)
-        (λ t. record { low = h; not_first = eqb-false k 0 f; is_sound = one→sound k h (eqb-true (get_or S k 0) 1 t) })
+        (λ f. by_bool (get_or S k false)
+        (λ t. record { low = h; not_first = eqb-false k 0 f; is_sound = sym (auth.sound_is k h) ∙ t })
         (λ g. none (ranks.entry k h ∙ rw (f, g))))
       where
         w : Memᴰ k l × (1 ≤ get_or R k 0) × (get_or R k 0 ≤ 256)
@@ -277,14 +272,14 @@ module _ {store : Bytes} {n : ℕ} {ids : Bytes} {index P T M Q G : List ℕ}
 
     -- ── the table of effects ──────────────────────────────────────────────────────────────────────────────────────────
 
-    module _ (E : List ℕ) (law : Effects (on_line store n) G M by_rank E) where
+    module _ (E : List Bool) (law : Effects (on_line store n) G M by_rank E) where
       -- the test of an id, by its place
       abbrev by_table : Id → Bool
-      by_table i = eqb (get_or E (place_by n ids index i) 0) 1
+      by_table i = get_or E (place_by n ids index i) false
 
-      by_table-at : (k : ℕ) → k < n → by_table (id_of store k) ≡ eqb (get_or E k 0) 1
+      by_table-at : (k : ℕ) → k < n → by_table (id_of store k) ≡ get_or E k false
       unfolding event_of
-      by_table-at k h = ap (λ (p : ℕ). eqb (get_or E p 0) 1) (own_place tables.levelled.loaded k h)
+      by_table-at k h = ap (λ (p : ℕ). get_or E p false) (own_place tables.levelled.loaded k h)
 
       -- an id that is found is that of a place
       held_place : (i : Id) (e : Event) → find_in held i ≡ some e → (p : ℕ) × (p < n) × (i ≡ id_of store p)
@@ -293,7 +288,7 @@ module _ {store : Bytes} {n : ℕ} {ids : Bytes} {index P T M Q G : List ℕ}
           let w = place_of tables.levelled.loaded e m.0 in
           (w.0, w.1, sym m.1 ∙ ap (λ (x : Event). x.ident) w.2)
 
-      effective-sound : (k : ℕ) → k < n → get_or E k 0 ≡ 1 → sound seen (id_of store k) ≡ true
+      effective-sound : (k : ℕ) → k < n → get_or E k false ≡ true → sound seen (id_of store k) ≡ true
       effective-sound k h y =
           by_bool (eqb k 0)
           (λ t.
@@ -302,8 +297,7 @@ module _ {store : Bytes} {n : ℕ} {ids : Bytes} {index P T M Q G : List ℕ}
           (λ f. by_bool (sound seen (id_of store k)) (λ t. t)
           (λ g.
           let out = law.others k (eqb-false k 0 f) (λ m. clash (sound seen (id_of store k)) (of-list k m).is_sound g) in
-          let z : ⊥ = omega (arith, out, y) in
-          absurd z))
+          clash (get_or E k false) y out))
 
       -- a revoke strikes a place in the table exactly when it strikes the event there
       struck→ : (k : ℕ) → Later k → StruckEvent held by_table (id_of store k) → Struck (on_line store n) G M by_rank E k
@@ -312,7 +306,7 @@ module _ {store : Bytes} {n : ℕ} {ids : Bytes} {index P T M Q G : List ℕ}
           let r = w.0 in
           let same = w.2 in
           let id = ap (λ (e : Event). e.ident) same in
-          let one = eqb-true (get_or E r 0) 1 (sym (by_table-at r w.1) ∙ ap by_table (sym id) ∙ x.is_effective) in
+          let one = sym (by_table-at r w.1) ∙ ap by_table (sym id) ∙ x.is_effective in
           let s = effective-sound r w.1 one in
           let v = revoke_of r w.1 s (ap is_revoke (sym same) ∙ x.is_revoke_lem) in
           let target : x.revoker.target ≡ id_of store (get_or G r 0) = ap (λ (e : Event). e.target) same ∙ v.target_id in
@@ -336,7 +330,7 @@ module _ {store : Bytes} {n : ℕ} {ids : Bytes} {index P T M Q G : List ℕ}
             revoker = held_at store r;
             held = held-at tables.levelled.loaded r b.low;
             is_revoke_lem = v.is_revoke_lem;
-            is_effective = by_table-at r b.low ∙ eq-eqb (get_or E r 0) 1 x.is_effective;
+            is_effective = by_table-at r b.low ∙ x.is_effective;
             target_on_line = Memᴰ.cast v.target_id on.1;
             not-ancestor = sym (tables.ancestors.bit r k b.low a.low (settled_some r b.low b.is_sound)) ∙ x.not-ancestor;
           }
@@ -355,12 +349,10 @@ module _ {store : Bytes} {n : ℕ} {ids : Bytes} {index P T M Q G : List ℕ}
           (λ p s.
           let w = slot_place tables.levelled.loaded i p s in
           ap (sound seen) (sym w.1)
-          ∙ effective-sound p w.0 (eqb-true (get_or E p 0) 1 (sym (by_table-at p w.0) ∙ ap by_table w.1 ∙ y)))
+          ∙ effective-sound p w.0 (sym (by_table-at p w.0) ∙ ap by_table w.1 ∙ y))
           (λ g s.
           let out = law.others 256 (λ e. omega arith) (λ m. omega (arith, (of-list 256 m).low, few tables)) in
-          let one = eqb-true (get_or E 256 0) 1 (rw s at y) in
-          let z : ⊥ = omega (arith, out, one) in
-          absurd z)
+          clash (get_or E 256 false) (rw s at y) out)
 
       -- an id that is sound is that of a place
       sound_place : (i : Id) → sound seen i ≡ true → (p : ℕ) × (p < n) × (i ≡ id_of store p)
@@ -378,7 +370,7 @@ module _ {store : Bytes} {n : ℕ} {ids : Bytes} {index P T M Q G : List ℕ}
               let w = sound_place i s in
               let p = w.0 in
               let x' = subst (StruckEvent held by_table) w.2 x in
-              let one = eqb-true (get_or E p 0) 1 (sym (by_table-at p w.1) ∙ ap by_table (sym w.2) ∙ y) in
+              let one = sym (by_table-at p w.1) ∙ ap by_table (sym w.2) ∙ y in
               ⊎_elim
               (λ (e : p ≡ 0). Memᴰ.not-nil (rw (ap (λ (k : ℕ). line seen (id_of store k)) e ∙ first_line) at x'.target_on_line))
               (λ a. law.not_struck p (in_list p a) one (struck→ p a x'))
@@ -390,13 +382,13 @@ module _ {store : Bytes} {n : ℕ} {ids : Bytes} {index P T M Q G : List ℕ}
               let p = w.0 in
               let one =
               ⊎_elim
-              (λ (e : p ≡ 0). ap (λ (k : ℕ). get_or E k 0) e ∙ law.creator)
+              (λ (e : p ≡ 0). ap (λ (k : ℕ). get_or E k false) e ∙ law.creator)
               (λ a. law.unstruck p (in_list p a) (λ x. unstruck (subst (StruckEvent held by_table) (sym w.2) (struck← p a x))))
               (later_or_first p w.1 (ap (sound seen) (sym w.2) ∙ s)) in
-              ap by_table w.2 ∙ by_table-at p w.1 ∙ eq-eqb (get_or E p 0) 1 one
+              ap by_table w.2 ∙ by_table-at p w.1 ∙ one
 
-      -- the table has 1 exactly where the event is effective
-      effect_at : (k : ℕ) → k < n → eqb (get_or E k 0) 1 ≡ effective seen (id_of store k)
+      -- the table says so exactly where the event is effective
+      effect_at : (k : ℕ) → k < n → get_or E k false ≡ effective seen (id_of store k)
       effect_at k h = sym (by_table-at k h) ∙ effective_unique held tables.levelled.loaded.distinct by_table by_table_lem (id_of store k)
 
       -- and the verdicts from it are the model's

@@ -1,4 +1,5 @@
 pub mod Turns
 pub mod RankLaws
 pub mod EffectLaws
+pub mod Made
 pub mod Steps

@@ -2,7 +2,7 @@
 use Prim.Native.Nat.{ℕ, ◌<◌, ◌≤◌}
 use native.Mathlib.Omega.{arith}
 use mathlib.Core.Path.{◌≡◌, sym, ap, ◌∙◌, subst}
-use mathlib.Core.Bool.{Bool}
+use mathlib.Core.Bool.{Bool, false}
 use mathlib.Core.List.{List, [], ◌∷◌, ◌++◌, Memᴰ}
 use lib.Dec.{eqb}
 use lib.ListN.{length, get_or, take, length-take}
@@ -18,6 +18,7 @@ use Rattle.ordering.proofs.OrderLaws.{ranked-ascending}
 use Rattle.ordering.proofs.OrderLaws.{rank-rest}
 use Rattle.ordering.specs.Placed.{Settled}
 use Rattle.ordering.proofs.Placed.{index_ascends, level_low, settled_in, in_settled, ordered}
+use Rattle.tables.specs.declared.BitRow.{BitRow}
 use Rattle.tables.specs.Filling.{everywhere, Filled}
 use Rattle.ancestry.specs.Ancestors.{AncestorRows}
 use Rattle.ancestry.specs.AncestorLaws.{ancestor_bits}
@@ -30,6 +31,11 @@ use Rattle.verdicts.specs.Effects.{Within, ByRank, Graded, Effects}
 use Rattle.verdicts.specs.Verdicts.{rank_of, verdict_of, Judged}
 use Rattle.verdicts.proofs.RankLaws.{by_rank_lem}
 use Rattle.verdicts.proofs.EffectLaws.{on_line, listed_fit, graded, verdict-at}
+
+-- what holds of the tables holds of those that are lent on
+pub lent_on : {store store' : Bytes} {P P' Q G l : List ℕ} {S : List Bool} → (store' ≡ store) × (P' ≡ P)
+    → SoundTable store' P' Q G l S → SoundTable store P Q G l S
+lent_on same sounds = rw (same.0, same.1) at sounds
 
 module _ {store : Bytes} {n : ℕ} {P T order : List ℕ} (settled : Settled store n P T order) where
   -- ── the settled places ────────────────────────────────────────────────────────────────────────────────────────────────
@@ -58,7 +64,7 @@ module _ {store : Bytes} {n : ℕ} {P T order : List ℕ} (settled : Settled sto
 
   -- ── the tables that the steps make ──────────────────────────────────────────────────────────────────────────────────────
 
-  module _ {M Q G S : List ℕ} (rows : AncestorRows P order M) (named : NamedAncestors store P M order Q G) (sounds : SoundTable store P Q G order S) where
+  module _ {M : List BitRow} {Q G : List ℕ} {S : List Bool} (rows : AncestorRows P order M) (named : NamedAncestors store P M order Q G) (sounds : SoundTable store P Q G order S) where
     listed : (k : ℕ) → k < n → (get_or T k 0 ≡ 0 → ⊥) → Memᴰ k order
     listed k h ne = subst (Memᴰ k) (sym settled.in_order) (settled_in settled.levelled k h ne)
 
@@ -85,7 +91,7 @@ module _ {store : Bytes} {n : ℕ} {P T order : List ℕ} (settled : Settled sto
           within k h =
               by_bool (eqb k 0)
               (λ t. let e : get_or R k 0 ≡ 0 = ranks.entry k h ∙ rw t in omega arith)
-              (λ f. by_bool (eqb (get_or S k 0) 1)
+              (λ f. by_bool (get_or S k false)
               (λ t. let e : get_or R k 0 ≡ get_or T (get_or Q k 0) 0 = ranks.entry k h ∙ rw (f, t) in omega (arith, e, level_low settled.levelled (get_or Q k 0)))
               (λ g. let e : get_or R k 0 ≡ 0 = ranks.entry k h ∙ rw (f, g) in omega arith))
 
@@ -108,13 +114,13 @@ module _ {store : Bytes} {n : ℕ} {P T order : List ℕ} (settled : Settled sto
         fits = subst (Within Q) (sym with-rank) (listed_fit tables S auth R order below settled.in_order)
 
         -- from the effects to the verdicts
-        pub judged : {E Z : List ℕ} {m : ℕ} → m ≡ 256
+        pub judged : {E : List Bool} {Z : List ℕ}
             → ((on : ℕ → ℕ → Bool) (rank : ℕ → ℕ) → Graded on rank Q G l → ByRank rank l → Effects on G M l E)
-            → Filled (verdict_of T S E) m Z → Judged store n Z
-        judged {E} {Z} {m} whole effects verdicts =
+            → Filled (verdict_of T S E) 256 Z → Judged store n Z
+        judged {E} {Z} effects verdicts =
             record {
               entry = verdict-at tables S auth R order below settled.in_order E law Z
-                  (record { entry = λ k h. verdicts.entry k (omega (arith, h, whole, settled.levelled.loaded.at_most)) });
+                  (record { entry = λ k h. verdicts.entry k (omega (arith, h, settled.levelled.loaded.at_most)) });
             }
           where
             law : Effects (on_line store n) G M (ranked R order 256) E

@@ -3,22 +3,20 @@ use Prim.Native.Nat.{ℕ, ◌+◌, ◌<◌, ◌≤◌}
 use native.Mathlib.Omega.{arith}
 use mathlib.Core.Path.{◌≡◌, refl, sym, ap, ◌∙◌, subst}
 use mathlib.Core.Logic.{◌⊎◌, inl, inr, ⊎_elim}
-use mathlib.Core.Bool.{Bool, true, false, not, ◌&&◌, ◌||◌, and-true}
+use mathlib.Core.Bool.{Bool, true, false, not, ◌&&◌, ◌||◌}
 use mathlib.Core.List.Memᴰ
 use mathlib.Core.List.{List, Memᴰ}
-use lib.Dec.{eqb}
-use lib.ListN.{length, get_or, take, set}
+use lib.Dec.{eqb, ltb}
+use lib.ListN.{length, get_or, take, set, replicate, length-replicate, get_or-replicate}
+use Rattle.std.proofs.Math.ListN.{get_or-eq_default}
 use lib.Seq.{take_all, get_or-set_same, get_or-set_other}
-use borrow.Author.Tests.{eqb-true, eq-eqb, ne_eqb}
+use borrow.Author.Tests.{eqb-true, eq-eqb, ltb-true, ltb-false, lt-ltb}
 use Rattle.lists.specs.Cases.{by_bool, clash, and→, and←, or→, or←l, or←r}
 use Rattle.lists.proofs.Sorting.{mem_get_d}
-use Rattle.tables.specs.Bits.{bit_at}
+use Rattle.tables.specs.declared.BitRow.{BitRow}
+use Rattle.tables.specs.Bits.{bit_in, bit_at, bit_repeated}
 use Rattle.tables.specs.Filling.{more→, more←, last, taken}
-use Rattle.authority.specs.Sound.{bit, bit_test}
 use Rattle.verdicts.specs.Effects.{Within, ByRank, Graded, Struck, Effects, narrowed}
-
-bit_one : (b : Bool) → bit b ≡ 1 → b ≡ true
-bit_one b e = sym (bit_test b) ∙ eq-eqb (bit b) 1 e
 
 -- a → b, as a test
 implies→ : (a b : Bool) → (not a || b) ≡ true → a ≡ true → b ≡ true
@@ -28,71 +26,52 @@ implies← : (a b : Bool) → (a ≡ true → b ≡ true) → (not a || b) ≡ t
 implies← true b h = h refl
 implies← false b h = refl
 
--- ── the rows kept ───────────────────────────────────────────────────────────────────────────────────────────────────────
-
--- the target's row after a revoke e; the row of no place
-module _ (K M : List ℕ) (t g e : ℕ) (target : t ≡ g) where
-  pub strike_row : (K' own : List ℕ) → ((b : ℕ) → bit_at own 0 b ≡ bit_at M e b)
-      → ((a b : ℕ) → bit_at K' a b ≡ (bit_at K a b && (not (eqb a t) || bit_at own 0 b)))
-      → (a b : ℕ) → bit_at K' a b ≡ (bit_at K a b && (not (eqb a g) || bit_at M e b))
-  strike_row K' own row met a b = met a b ∙ rw (row b, target)
-
-  pub strike_none : 256 ≤ t → (a b : ℕ) → a < 256 → bit_at K a b ≡ (bit_at K a b && (not (eqb a g) || bit_at M e b))
-  strike_none h a b l = sym (rw (ne_eqb a g (λ q. omega (arith, q, target, h, l))) (and-true (bit_at K a b)))
-
-module _ (Q G M K : List ℕ) (e g : ℕ) (presented : g ≡ get_or Q e 0) (above K' : List ℕ)
-    (row : (b : ℕ) → bit_at above 0 b ≡ bit_at K g b)
-    (met : (a b : ℕ) → bit_at K' a b ≡ (bit_at K a b && (not (eqb a e) || bit_at above 0 b))) where
-  -- the rows after e where it is effective, and where it is not
-  pub narrowed-kept : bit_at K (get_or Q e 0) e ≡ true → (K'' : List ℕ)
-      → ((a b : ℕ) → a < 256 → bit_at K'' a b ≡ (bit_at K' a b && (not (eqb a (get_or G e 0)) || bit_at M e b)))
-      → (a b : ℕ) → a < 256 → bit_at K'' a b ≡ narrowed Q G M K e a b
-  unfolding narrowed
-  narrowed-kept t K'' struck a b l = struck a b l ∙ rw (met a b, row b, presented, t)
-
-  pub narrowed-void : bit_at K (get_or Q e 0) e ≡ false → (a b : ℕ) → a < 256 → bit_at K' a b ≡ narrowed Q G M K e a b
-  unfolding narrowed
-  narrowed-void f a b l =
-      met a b ∙ rw (row b, presented, f) (sym (and-true (bit_at K a b && (not (eqb a e) || bit_at K (get_or Q e 0) b))))
+-- a table of 256 entries that says nothing of any place
+nowhere : (k : ℕ) → get_or (replicate 256 false) k false ≡ false
+nowhere k =
+    by_bool (ltb k 256)
+    (λ t. get_or-replicate 256 k false false (ltb-true k 256 t))
+    (λ f.
+    let h : length (replicate 256 false) ≤ k = omega (arith, length-replicate 256 false, ltb-false k 256 f) in
+    get_or-eq_default (replicate 256 false) false h)
 
 -- ── turns ───────────────────────────────────────────────────────────────────────────────────────────────────────────────
 
 -- the next place
-pub next-within : {Q l : List ℕ} (i : ℕ) → Within Q l → i < length l → (get_or l i 0 < 256) × (get_or Q (get_or l i 0) 0 < 256)
-next-within {l = l} i w h = w.each (get_or l i 0) (mem_get_d l i 0 h)
+pub next_within : {Q l : List ℕ} (i : ℕ) → Within Q l → i < length l → (get_or l i 0 < 256) × (get_or Q (get_or l i 0) 0 < 256)
+next_within {l = l} i w h = w.each (get_or l i 0) (mem_get_d l i 0 h)
 
-module _ (on : ℕ → ℕ → Bool) (G M l : List ℕ) where
+module _ (on : ℕ → ℕ → Bool) (G : List ℕ) (M : List BitRow) (l : List ℕ) where
   -- after the places `done`, the row of place g holds what each effective revoke of g has as an ancestor, and where g is done
   -- also each effective revoke of a place on its line
   abbrev Aims : List ℕ → ℕ → ℕ → Type 0
   Aims done r g = (get_or G r 0 ≡ g) ⊎ (Memᴰ g done × (on g (get_or G r 0) ≡ true))
 
-  abbrev Spares : List ℕ → List ℕ → ℕ → ℕ → Type 0
-  Spares E done g j = (r : ℕ) → Memᴰ r done → get_or E r 0 ≡ 1 → Aims done r g → bit_at M r j ≡ true
+  abbrev Spares : List Bool → List ℕ → ℕ → ℕ → Type 0
+  Spares E done g j = (r : ℕ) → Memᴰ r done → get_or E r false ≡ true → Aims done r g → bit_at M r j ≡ true
 
   -- after the first i places
-  pub record Turn (K E : List ℕ) (i : ℕ) : Type 0 where
-    pub creator : get_or E 0 0 ≡ 1
-    pub others : (k : ℕ) → (k ≡ 0 → ⊥) → (Memᴰ k (take i l) → ⊥) → get_or E k 0 ≡ 0
-    pub not_struck : (k : ℕ) → Memᴰ k (take i l) → get_or E k 0 ≡ 1 → Struck on G M l E k → ⊥
-    pub unstruck : (k : ℕ) → Memᴰ k (take i l) → (Struck on G M l E k → ⊥) → get_or E k 0 ≡ 1
+  pub record Turn (K : List BitRow) (E : List Bool) (i : ℕ) : Type 0 where
+    pub creator : get_or E 0 false ≡ true
+    pub others : (k : ℕ) → (k ≡ 0 → ⊥) → (Memᴰ k (take i l) → ⊥) → get_or E k false ≡ false
+    pub not_struck : (k : ℕ) → Memᴰ k (take i l) → get_or E k false ≡ true → Struck on G M l E k → ⊥
+    pub unstruck : (k : ℕ) → Memᴰ k (take i l) → (Struck on G M l E k → ⊥) → get_or E k false ≡ true
     pub kept→ : (g j : ℕ) → g < 256 → j < 256 → bit_at K g j ≡ true → Spares E (take i l) g j
     pub kept← : (g j : ℕ) → g < 256 → j < 256 → Spares E (take i l) g j → bit_at K g j ≡ true
 
-  -- nothing stood in the table C before the creator
-  pub turn_start : (K C : List ℕ) → length C ≡ 256 → ((k : ℕ) → get_or C k 0 ≡ 0)
-      → ((g j : ℕ) → g < 256 → j < 256 → bit_at K g j ≡ true) → Turn K (set C 0 1) 0
-  turn_start K C size zeros full =
+  -- nothing stands in the table but the creator, and each row has every bit
+  pub turn_start : (row : BitRow) → ((j : ℕ) → j < 256 → bit_in row j ≡ true) → Turn (replicate 256 row) (set (replicate 256 false) 0 true) 0
+  turn_start row full =
       record {
-        creator = get_or-set_same C 0 1 0 (omega (arith, size));
-        others = λ k ne m. get_or-set_other C 0 k 1 0 ne ∙ zeros k;
+        creator = refl;
+        others = λ k ne m. get_or-set_other (replicate 256 false) 0 k true false ne ∙ nowhere k;
         not_struck = λ k m. absurd (Memᴰ.not-nil m);
         unstruck = λ k m. absurd (Memᴰ.not-nil m);
         kept→ = λ g j lg lj t r m. absurd (Memᴰ.not-nil m);
-        kept← = λ g j lg lj h. full g j lg lj;
+        kept← = λ g j lg lj h. bit_repeated 256 row g j ∙ rw (lt-ltb g 256 lg, full j lj);
       }
 
-  pub turn_end : (K E : List ℕ) (i : ℕ) → Turn K E i → length l ≤ i → Effects on G M l E
+  pub turn_end : (K : List BitRow) (E : List Bool) (i : ℕ) → Turn K E i → length l ≤ i → Effects on G M l E
   turn_end K E i turn h =
       let all = take_all i l h in
       record {
@@ -104,7 +83,7 @@ module _ (on : ℕ → ℕ → Bool) (G M l : List ℕ) where
 
   -- one place more
   module _ (rank : ℕ → ℕ) (Q : List ℕ) (graded : Graded on rank Q G l) (sorted : ByRank rank l)
-      (K E : List ℕ) (i : ℕ) (turn : Turn K E i) (h : i < length l)
+      (K : List BitRow) (E : List Bool) (i : ℕ) (turn : Turn K E i) (h : i < length l)
       (low : get_or Q (get_or l i 0) 0 < 256) (small : get_or l i 0 < 256) (inside : get_or l i 0 < length E) where
     abbrev e : ℕ
     e = get_or l i 0
@@ -112,8 +91,8 @@ module _ (on : ℕ → ℕ → Bool) (G M l : List ℕ) where
     abbrev q : ℕ
     q = get_or Q (get_or l i 0) 0
 
-    abbrev now_effective : List ℕ
-    now_effective = set E (get_or l i 0) (bit (bit_at K (get_or Q (get_or l i 0) 0) (get_or l i 0)))
+    abbrev now_effective : List Bool
+    now_effective = set E (get_or l i 0) (bit_at K (get_or Q (get_or l i 0) 0) (get_or l i 0))
 
     listed : Memᴰ e l
     listed = mem_get_d l i 0 h
@@ -121,17 +100,17 @@ module _ (on : ℕ → ℕ → Bool) (G M l : List ℕ) where
     apart : (k : ℕ) → Memᴰ k (take i l) → k ≡ e → ⊥
     apart k m s = sorted.once i h (Memᴰ.cast (sym s) m)
 
-    new : get_or now_effective e 0 ≡ bit (bit_at K q e)
-    new = get_or-set_same E e (bit (bit_at K q e)) 0 inside
+    new : get_or now_effective e false ≡ bit_at K q e
+    new = get_or-set_same E e (bit_at K q e) false inside
 
-    same : (k : ℕ) → (k ≡ e → ⊥) → get_or now_effective k 0 ≡ get_or E k 0
-    same k ne = get_or-set_other E e k (bit (bit_at K q e)) 0 ne
+    same : (k : ℕ) → (k ≡ e → ⊥) → get_or now_effective k false ≡ get_or E k false
+    same k ne = get_or-set_other E e k (bit_at K q e) false ne
 
-    kept : (k : ℕ) → Memᴰ k (take i l) → get_or now_effective k 0 ≡ get_or E k 0
+    kept : (k : ℕ) → Memᴰ k (take i l) → get_or now_effective k false ≡ get_or E k false
     kept k m = same k (apart k m)
 
     -- the row of the presented place holds what each effective revoke of a place on the line of e has as an ancestor
-    above→ : (j : ℕ) → j < 256 → bit_at K q j ≡ true → (r : ℕ) → Memᴰ r (take i l) → get_or E r 0 ≡ 1
+    above→ : (j : ℕ) → j < 256 → bit_at K q j ≡ true → (r : ℕ) → Memᴰ r (take i l) → get_or E r false ≡ true
         → on e (get_or G r 0) ≡ true → bit_at M r j ≡ true
     above→ j lj t r m y a =
         turn.kept→ q j low lj t r m y
@@ -140,7 +119,7 @@ module _ (on : ℕ → ℕ → Bool) (G M l : List ℕ) where
         (or→ (eqb (get_or G r 0) q) (on q (get_or G r 0)) (sym (graded.line e (get_or G r 0) listed) ∙ a)))
 
     above← : (j : ℕ) → j < 256
-        → ((r : ℕ) → Memᴰ r (take i l) → get_or E r 0 ≡ 1 → on e (get_or G r 0) ≡ true → bit_at M r j ≡ true) → bit_at K q j ≡ true
+        → ((r : ℕ) → Memᴰ r (take i l) → get_or E r false ≡ true → on e (get_or G r 0) ≡ true → bit_at M r j ≡ true) → bit_at K q j ≡ true
     above← j lj spares =
         turn.kept← q j low lj
         (λ r m y a. spares r m y
@@ -159,7 +138,7 @@ module _ (on : ℕ → ℕ → Bool) (G M l : List ℕ) where
         (more→ l i h k m)
 
     -- e strikes no place that is done, so tables that differ only there strike alike
-    struck_alike : (A B : List ℕ) → ((r : ℕ) → (r ≡ e → ⊥) → get_or B r 0 ≡ get_or A r 0) → (k : ℕ) → Memᴰ k (take (i + 1) l)
+    struck_alike : (A B : List Bool) → ((r : ℕ) → (r ≡ e → ⊥) → get_or B r false ≡ get_or A r false) → (k : ℕ) → Memᴰ k (take (i + 1) l)
         → Struck on G M l A k → Struck on G M l B k
     struck_alike A B alike k m s =
         let ne : s.revoke ≡ e → ⊥ = λ p. no_strike k m (ap (λ (r : ℕ). on k (get_or G r 0)) (sym p) ∙ s.target_on_line) in
@@ -195,25 +174,25 @@ module _ (on : ℕ → ℕ → Bool) (G M l : List ℕ) where
           not-ancestor = f;
         }))))
 
-    not_struck : (k : ℕ) → Memᴰ k (take (i + 1) l) → get_or now_effective k 0 ≡ 1 → Struck on G M l now_effective k → ⊥
+    not_struck : (k : ℕ) → Memᴰ k (take (i + 1) l) → get_or now_effective k false ≡ true → Struck on G M l now_effective k → ⊥
     not_struck k m y s =
         ⊎_elim
         (λ n. turn.not_struck k n (sym (kept k n) ∙ y) (struck→ k m s))
         (λ (p : k ≡ e).
-        let t = bit_one (bit_at K q e) (sym new ∙ ap (λ (x : ℕ). get_or now_effective x 0) (sym p) ∙ y) in
+        let t = sym new ∙ ap (λ (x : ℕ). get_or now_effective x false) (sym p) ∙ y in
         bit→ t (subst (λ (x : ℕ). Struck on G M l E x) p (struck→ k m s)))
         (more→ l i h k m)
 
-    unstruck : (k : ℕ) → Memᴰ k (take (i + 1) l) → (Struck on G M l now_effective k → ⊥) → get_or now_effective k 0 ≡ 1
+    unstruck : (k : ℕ) → Memᴰ k (take (i + 1) l) → (Struck on G M l now_effective k → ⊥) → get_or now_effective k false ≡ true
     unstruck k m none =
         ⊎_elim
         (λ n. kept k n ∙ turn.unstruck k n (λ s. none (struck← k m s)))
         (λ (p : k ≡ e).
         let t = bit← (λ s. none (struck← k m (subst (λ (x : ℕ). Struck on G M l E x) (sym p) s))) in
-        ap (λ (x : ℕ). get_or now_effective x 0) p ∙ new ∙ ap bit t)
+        ap (λ (x : ℕ). get_or now_effective x false) p ∙ new ∙ t)
         (more→ l i h k m)
 
-    module _ (K' : List ℕ) (rows : (a b : ℕ) → a < 256 → bit_at K' a b ≡ narrowed Q G M K e a b) where
+    module _ (K' : List BitRow) (rows : (a b : ℕ) → a < 256 → bit_at K' a b ≡ narrowed Q G M K e a b) where
       kept→ : (g j : ℕ) → g < 256 → j < 256 → bit_at K' g j ≡ true → Spares now_effective (take (i + 1) l) g j
       unfolding narrowed
       kept→ g j lg lj t r m y a =
@@ -226,7 +205,7 @@ module _ (on : ℕ → ℕ → Bool) (G M l : List ℕ) where
           (λ p. itself p (implies→ (bit_at K q e && eqb g (get_or G e 0)) (bit_at M e j) all.1) a)
           (more→ l i h r m)
         where
-          before : Memᴰ r (take i l) → get_or E r 0 ≡ 1 → bit_at K g j ≡ true → (eqb g e ≡ true → bit_at K q j ≡ true)
+          before : Memᴰ r (take i l) → get_or E r false ≡ true → bit_at K g j ≡ true → (eqb g e ≡ true → bit_at K q j ≡ true)
               → Aims (take (i + 1) l) r g → bit_at M r j ≡ true
           before n z own parent a =
               ⊎_elim
@@ -240,7 +219,7 @@ module _ (on : ℕ → ℕ → Bool) (G M l : List ℕ) where
           itself : r ≡ e → (bit_at K q e && eqb g (get_or G e 0) ≡ true → bit_at M e j ≡ true) → Aims (take (i + 1) l) r g
               → bit_at M r j ≡ true
           itself p own a =
-              let t = bit_one (bit_at K q e) (sym new ∙ ap (λ (x : ℕ). get_or now_effective x 0) (sym p) ∙ y) in
+              let t = sym new ∙ ap (λ (x : ℕ). get_or now_effective x false) (sym p) ∙ y in
               ⊎_elim
               (λ (s : get_or G r 0 ≡ g).
               ap (λ (x : ℕ). bit_at M x j) p
@@ -270,7 +249,7 @@ module _ (on : ℕ → ℕ → Bool) (G M l : List ℕ) where
               implies← (bit_at K q e && eqb g (get_or G e 0)) (bit_at M e j)
               (λ t.
               let both = and→ (bit_at K q e) (eqb g (get_or G e 0)) t in
-              spares e (last l i h) (new ∙ ap bit both.0) (inl (sym (eqb-true g (get_or G e 0) both.1))))
+              spares e (last l i h) (new ∙ both.0) (inl (sym (eqb-true g (get_or G e 0) both.1))))
 
       pub turn_again : Turn K' now_effective (i + 1)
       turn_again =

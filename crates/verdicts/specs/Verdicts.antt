@@ -1,6 +1,6 @@
--- Ranks and verdicts by places. T is the table of levels, Q that of presented places; S and E have 1 where a place is sound and where
+-- Ranks and verdicts by places. T is the table of levels, Q that of presented places; S and E say where a place is sound and where
 -- it is effective, Z has the verdicts.
-use Rattle.std.specs.Prelude.{ℕ, ◌<◌, ◌≤◌, ◌≡◌, cond, List, eqb, length, get_or, take}
+use Rattle.std.specs.Prelude.{ℕ, ◌<◌, ◌≤◌, ◌≡◌, Bool, false, cond, List, eqb, length, get_or, take}
 use Rattle.lists.specs.Bytes.{Bytes}
 use Rattle.model.specs.Heights.{view}
 use Rattle.model.specs.Verdicts.{verdict}
@@ -9,12 +9,12 @@ use Rattle.ordering.specs.Order.{of_rank}
 use Rattle.ordering.specs.Placed.{id_of}
 
 -- the rank of a sound place is the level of the presented one; the creator and what is not sound have none
-unfoldable pub rank_of : List ℕ → List ℕ → List ℕ → ℕ → ℕ
-rank_of T Q S k = cond (eqb k 0) 0 (cond (eqb (get_or S k 0) 1) (get_or T (get_or Q k 0) 0) 0)
+unfoldable pub rank_of : List ℕ → List ℕ → List Bool → ℕ → ℕ
+rank_of T Q S k = cond (eqb k 0) 0 (cond (get_or S k false) (get_or T (get_or Q k 0) 0) 0)
 
 -- "0 waiting, 1 unsound, 2 void, 3 effective"
-unfoldable pub verdict_of : List ℕ → List ℕ → List ℕ → ℕ → ℕ
-verdict_of T S E k = cond (eqb (get_or T k 0) 0) 0 (cond (eqb (get_or S k 0) 1) (cond (eqb (get_or E k 0) 1) 3 2) 1)
+unfoldable pub verdict_of : List ℕ → List Bool → List Bool → ℕ → ℕ
+verdict_of T S E k = cond (eqb (get_or T k 0) 0) 0 (cond (get_or S k false) (cond (get_or E k false) 3 2) 1)
 
 -- the table has the verdict of each event held
 pub record Judged (store : Bytes) (n : ℕ) (Z : List ℕ) : Type 0 where

@@ -2,143 +2,96 @@
 
 #![tactic(auto)]
 
-ghost use Rattle.std.specs.Prelude.{◌≡◌, Bool, not, ◌&&◌, ◌||◌, ℕ, ◌<◌, ◌≤◌, eqb, length, get_or};
+ghost use Rattle.std.specs.Prelude.{◌≡◌, Bool, not, ◌&&◌, ◌||◌, ℕ, ◌<◌, eqb, length, get_or};
 ghost use Rattle.ordering.specs.Placed.{Settled};
 ghost use Rattle.tables.specs.Bits.{bit_at};
-ghost use Rattle.authority.specs.Sound.{bit};
 ghost use Rattle.verdicts.specs.Effects.{Within, ByRank, Graded, Effects, narrowed};
-ghost use Rattle.tables.specs.Filling.{Filled};
 ghost use Rattle.verdicts.specs.Verdicts.{rank_of, verdict_of, JudgedPlaces};
 
+use authority::Lines;
 use ordering::MISSING;
+use std::array;
+use tables::BitRow;
 
 // The level of the presented place; 0 for the creator and for a place that is not sound.
-fn rank(levels: &[u16], presented: &[u16; 256], sound: &[u16; 256], k: u16) -> u16
+#[tactic(auto, unfolding(crate::specs::Verdicts::rank_of))]
+fn rank(levels: &[u16], presented: &[u16; 256], sound: &[bool; 256], k: u16) -> u16
     ensures { result ≡ rank_of levels.now presented.now sound.now k }
 {
-    if k == 0 {
+    if k == 0 || !authority::marked(sound, k) {
         return 0;
     }
-    if tables::entry(sound, k) == 1 {
-        let by = tables::entry(presented, k);
-        return tables::entry(levels, by);
-    }
-    0
-}
-
-// The rank of each place.
-fn find_ranks(levels: &[u16], presented: &[u16; 256], sound: &[u16; 256], ranks: &mut [u16])
-    requires { length ranks.old ≤ 256 }
-    ensures { Filled (rank_of levels.now presented.now sound.now) (length ranks.old)
-        ranks.new }
-{
-    let mut k = 0;
-    while k < ranks.len() {
-        let r = rank(levels, presented, sound, k as u16);
-        ranks[k] = r;
-        k += 1;
-    }
+    let by = tables::entry(presented, k);
+    tables::entry(levels, by)
 }
 
 // Where place e is a revoke, its target keeps only the ancestors of e.
-fn strike(targets: &[u16; 256], rows: &[u64; 1024], keep: &mut [u64; 1024], e: u16)
-    requires { e < 256 }
+#[tactic(auto, using(tables::specs::Bits::bit_written), unfolding(tables::specs::Bits::bit_at))]
+fn strike(targets: &[u16; 256], rows: &[BitRow; 256], keep: &mut [BitRow; 256], e: u8)
     ensures { (a b : ℕ) → a < 256 → bit_at keep.new a b
         ≡ (bit_at keep.old a b && (not (eqb a (get_or targets.now e 0)) || bit_at rows.now e b)) }
 {
-    let t = targets[e as usize];
+    let t = targets[usize::from(e)];
     if t < MISSING {
-        let own = tables::row(rows, e);
-        tables::meet(keep, t, own);
+        let own = rows[usize::from(e)];
+        keep[usize::from(t)].meet(own);
     }
 }
 
-// 1 for true, 0 for false.
-fn digit(test: bool) -> u16
-    ensures { result ≡ bit test }
-{
-    if test { 1 } else { 0 }
-}
-
-// Whether e is effective (1): the row of the presented place keeps it. The row of e then keeps no more than that row, and an
+// Whether e is effective: the row of the presented place keeps it. The row of e then keeps no more than that row, and an
 // effective revoke strikes.
-fn effect(
-    presented: &[u16; 256],
-    targets: &[u16; 256],
-    rows: &[u64; 1024],
-    keep: &mut [u64; 1024],
-    e: u16,
-) -> u16
-    requires { (e < 256) × (get_or presented.now e 0 < 256) }
-    ensures value { result ≡ bit (bit_at keep.old (get_or presented.now e 0) e) }
+#[tactic(auto, using(tables::specs::Bits::bit_written), unfolding(crate::specs::Effects::narrowed, tables::specs::Bits::bit_at))]
+fn effect(lines: &Lines, rows: &[BitRow; 256], keep: &mut [BitRow; 256], e: u8) -> bool
+    requires { get_or lines.now.presented e 0 < 256 }
+    ensures value { result ≡ bit_at keep.old (get_or lines.now.presented e 0) e }
     ensures kept { (a b : ℕ) → a < 256 → bit_at keep.new a b
-        ≡ narrowed presented.now targets.now rows.now keep.old e a b }
+        ≡ narrowed lines.now.presented lines.now.targets rows.now keep.old e a b }
 {
-    let g = presented[e as usize];
-    let kept = tables::has(keep, g, e);
-    let above = tables::row(keep, g);
-    tables::meet(keep, e, above);
+    let g = usize::from(lines.presented[usize::from(e)]);
+    let kept = keep[g].has(u16::from(e));
+    let above = keep[g];
+    keep[usize::from(e)].meet(above);
     if kept {
-        strike(targets, rows, keep, e);
+        strike(&lines.targets, rows, keep, e);
     }
-    digit(kept)
+    kept
 }
 
-// 1 for each effective place, by a list of the sound ones by rank: what strikes a place stands before it. Row g of `keep` has the
+// Which places are effective, by a list of the sound ones by rank: what strikes a place stands before it. Row g of `keep` has the
 // places that each effective revoke of g, or of a place on the line of g, has as an ancestor. The contract holds for all lines
 // and ranks that suit the tables.
-fn find_effects(
-    presented: &[u16; 256],
-    targets: &[u16; 256],
-    rows: &[u64; 1024],
-    list: &[u16],
-    effective: &mut [u16; 256],
-)
-    requires { Within presented.now list.now }
-    ensures { (on : ℕ → ℕ → Bool) (rank : ℕ → ℕ) → Graded on rank presented.now targets.now list.now
-        → ByRank rank list.now → Effects on targets.now rows.now list.now effective.new }
+#[tactic(auto, using(crate::proofs::Turns::next_within))]
+fn find_effects(lines: &Lines, rows: &[BitRow; 256], list: &[u16]) -> [bool; 256]
+    requires { Within lines.now.presented list.now }
+    ensures { (on : ℕ → ℕ → Bool) (rank : ℕ → ℕ) → Graded on rank lines.now.presented lines.now.targets list.now
+        → ByRank rank list.now → Effects on lines.now.targets rows.now list.now result }
 {
-    tables::clear(effective);
-    effective[0] = 1;
-    let mut keep = [0u64; 1024];
-    tables::fill_rows(&mut keep);
-    let mut i = 0;
-    while i < list.len() {
-        let e = list[i];
-        let kept = effect(presented, targets, rows, &mut keep, e);
-        effective[e as usize] = kept;
-        i += 1;
+    let mut effective = [false; 256];
+    effective[0] = true;
+    let mut keep = [BitRow::full(); 256];
+    for &place in list {
+        let e = place as u8;
+        let kept = effect(lines, rows, &mut keep, e);
+        effective[usize::from(e)] = kept;
     }
+    effective
 }
 
-// The verdict of place k.
-fn verdict(levels: &[u16], sound: &[u16; 256], effective: &[u16; 256], k: u16) -> u16
+// The verdict of place k: 0 waiting, 1 unsound, 2 void, 3 effective.
+#[tactic(auto, unfolding(crate::specs::Verdicts::verdict_of))]
+fn verdict(levels: &[u16], sound: &[bool; 256], effective: &[bool; 256], k: u16) -> u16
     ensures { result ≡ verdict_of levels.now sound.now effective.now k }
 {
     if tables::entry(levels, k) == 0 {
         return 0;
     }
-    if tables::entry(sound, k) != 1 {
+    if !authority::marked(sound, k) {
         return 1;
     }
-    if tables::entry(effective, k) == 1 {
+    if authority::marked(effective, k) {
         3
     } else {
         2
-    }
-}
-
-// The verdict of each place: 0 waiting, 1 unsound, 2 void, 3 effective.
-fn find_verdicts(levels: &[u16], sound: &[u16; 256], effective: &[u16; 256], verdicts: &mut [u16])
-    requires { length verdicts.old ≤ 256 }
-    ensures { Filled (verdict_of levels.now sound.now effective.now) (length verdicts.old)
-        verdicts.new }
-{
-    let mut k = 0;
-    while k < verdicts.len() {
-        let v = verdict(levels, sound, effective, k as u16);
-        verdicts[k] = v;
-        k += 1;
     }
 }
 
@@ -156,25 +109,15 @@ pub fn judge(
     ensures { JudgedPlaces store.now (length levels.now) order.now verdicts.new
         run.new result }
 {
-    let mut rows = [0u64; 1024];
+    let mut rows = [BitRow::empty(); 256];
     ancestry::ancestors(named, order, &mut rows);
-    let mut presented = [0u16; 256];
-    let mut targets = [0u16; 256];
-    authority::find_named_ancestors(store, named, order, &rows, &mut presented, &mut targets);
-    let mut sound = [0u16; 256];
-    authority::authorize(store, named, order, &presented, &targets, &mut sound);
-    let mut ranks = [0u16; 256];
-    find_ranks(levels, &presented, &sound, &mut ranks);
+    let lines = Lines::find(store, named, order, &rows);
+    let sound = lines.authorize(order);
+    let ranks: [u16; 256] = array::from_fn(|k| rank(levels, &lines.presented, &sound, k as u16));
+    // Kept, fixed memory: the list has room for every place, and how many it holds stands beside it.
     let mut list = [0u16; 256];
     let count = ordering::by_rank(order, &ranks, &mut list);
-    let mut effective = [0u16; 256];
-    find_effects(
-        &presented,
-        &targets,
-        &rows,
-        tables::front(&list, count),
-        &mut effective,
-    );
-    find_verdicts(levels, &sound, &effective, verdicts);
+    let effective = find_effects(&lines, &rows, tables::front(&list, count));
+    *verdicts = array::from_fn(|k| verdict(levels, &sound, &effective, k as u16));
     ordering::put_rank(order, verdicts, 3, run, 0)
 }

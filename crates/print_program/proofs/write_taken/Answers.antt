@@ -3,5 +3,4 @@ use Rattle.print_program.proofs.write_taken.Goals as goal
 
 pub returns : goal.returns
 unfolding taken_page
-returns c = let taken = c.take_bundle-taken.ensures in
-    rw (← taken) c.write_held.ensures
+returns c = rw (← c.take_bundle-taken.ensures) c.write_held.ensures

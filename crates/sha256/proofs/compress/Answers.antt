@@ -1,10 +1,10 @@
-use Rattle.std.proofs.Common.{refl, rules}
-use Rattle.sha256.specs.Constants.{K}
+use Rattle.std.proofs.Common.{ℕ, List, ap, ◌∙◌}
+use Rattle.sha256.specs.Sha256.{extended, rounds, add_states, compress}
 use Rattle.sha256.proofs.compress.Goals as goal
 
--- `sha256::compress` meets its contract.
--- Assumes nothing.
-
-pub compress_by-requires : goal.compress_by-requires
-unfolding K
-compress_by-requires c = (search rules, refl)
+pub returns : goal.returns
+unfolding compress
+returns c = let s = c.args.s in
+    c.add_states.ensures
+    ∙ ap (add_states s) (c.last_rounds.ensures _ _ c.first_rounds-r.ensures
+    ∙ ap (λ (m : List ℕ). rounds 64 (extended 48 m) s) c.load_words-w.ensures)

@@ -1,4 +1,4 @@
-use Rattle.std.proofs.Common.{◌≡◌, ◌-◌, ◌≤◌, length, take}
+use Rattle.std.proofs.Common.{◌≡◌, length, take}
 use Rattle.sha256.specs.Sha256.{words}
 use Rattle.sha256.proofs.load_words.Given as goal
 
@@ -6,7 +6,4 @@ use Rattle.sha256.proofs.load_words.Given as goal
 -- Assumes nothing.
 
 abbrev pub invariant-loop-i : goal.invariant-loop-i
-invariant-loop-i l = (l.i ≤ 16) × (length l.w ≡ 16) × (take l.i l.w ≡ words l.i l.block)
-
-abbrev pub decreases-loop-i : goal.decreases-loop-i
-decreases-loop-i l = 16 - l.i
+invariant-loop-i l = (length l.w ≡ 16) × (take l.i l.w ≡ words l.i l.block)

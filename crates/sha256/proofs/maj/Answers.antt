@@ -1,4 +1,3 @@
-use Rattle.std.proofs.Common.{arith}
 use Rattle.sha256.proofs.Digits.{maj_form}
 use Rattle.sha256.proofs.maj.Goals as goal
 
@@ -6,4 +5,4 @@ use Rattle.sha256.proofs.maj.Goals as goal
 -- Assumes nothing.
 
 pub returns : goal.returns
-returns c = maj_form c.args.x c.args.y c.args.z (omega arith) (omega arith) (omega arith)
+returns c = maj_form c.args.x c.args.y c.args.z

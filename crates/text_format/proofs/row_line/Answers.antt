@@ -5,7 +5,7 @@ pub returns : goal.returns
 unfolding assembled
 returns c = let a = c.args in
     line_of a.row.now
-    c.four_digits-a.result
-    c.four_digits-b.result
-    c.two_digits-j.result c.two_digits-k.result c.five_digits-m.result
+    c.digits-a.result
+    c.digits-b.result
+    c.digits-j.result c.digits-k.result c.digits-m.result
     (cc) (cc) (cc) (cc) (cc)

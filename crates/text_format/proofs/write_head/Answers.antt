@@ -1,22 +1,9 @@
 use Prim.Native.Nat.{◌+◌}
 use native.Mathlib.Omega.{arith}
 use mathlib.Core.Path.{refl}
-use Rattle.text_format.specs.Text.{links_word, waiting_word, unsound_word, void_word, line_feed, head_line}
-use Rattle.text_format.specs.Sizes.{field_most}
+use Rattle.text_format.specs.Text.{line_feed, head_line}
 use Rattle.text_format.proofs.TextWritten.{written_start, written_more}
 use Rattle.text_format.proofs.write_head.Goals as goal
-
-pub write_field-a-requires : goal.write_field-a-requires
-write_field-a-requires c = omega (arith, field_most links_word 4 c.args.links (omega arith))
-
-pub write_field-b-requires : goal.write_field-b-requires
-write_field-b-requires c = omega (arith, field_most waiting_word 4 c.args.waiting (omega arith))
-
-pub write_field-c-requires : goal.write_field-c-requires
-write_field-c-requires c = omega (arith, field_most unsound_word 4 c.args.unsound (omega arith))
-
-pub write_field-d-requires : goal.write_field-d-requires
-write_field-d-requires c = omega (arith, field_most void_word 4 c.args.void (omega arith))
 
 pub returns : goal.returns
 unfolding head_line

@@ -1,5 +1,5 @@
 use native.Mathlib.Omega.{arith}
-use Rattle.text_format.proofs.TextWritten.{text_short, text-written}
+use Rattle.text_format.proofs.TextWritten.{text_short, text_written}
 use Rattle.text_format.proofs.write_text.Goals as goal
 
 pub returns-then-out-size : goal.returns-then-out-size
@@ -9,6 +9,6 @@ returns-then-out-size c = let a = c.args in
 pub returns : goal.returns
 returns c = let a = c.args in
     let k = c.write_counts-at in
-    let all = text-written a.rows.now a.verdicts.now a.out.now k.result (cc) _
+    let all = text_written a.rows.now a.verdicts.now a.out.now k.result (cc) _
     k.new.out c.paste.new.dst c.write_lines.new.out
     (omega arith) k.ensures.written (cc) (cc) in record { answer = all.0; output = all.1 }

@@ -7,7 +7,7 @@ use Rattle.event_ids.proofs.lanes.first_rounds.Goals as goal
 
 pub loop-t-init : goal.loop-t-init
 unfolding steps
-loop-t-init c = (search rules, refl, c.requires.0, c.requires.1, λ l h. refl)
+loop-t-init c = (search rules, refl, λ l h. refl)
 
 pub loop-t-preserved : goal.loop-t-preserved
 loop-t-preserved c = let a = c.args in
@@ -15,13 +15,15 @@ loop-t-preserved c = let a = c.args in
     let e = c.lanes_rounds_and_words.ensures in (
       omega arith,
       omega arith,
-      e.lengths.0,
-      e.lengths.1,
-      λ l h. e.each_lane l h ∙ ap (steps t 4) (c.loop-t.invariant.4 l h) ∙ sym (steps_join t 4 (lane_at l a.w.now a.st.now)),
+      λ l h. e l h ∙ ap (steps t 4) (c.loop-t.invariant.2 l h) ∙ sym (steps_join t 4 (lane_at l a.w.now.words a.st.now.words)),
     )
 
 pub returns : goal.returns
 returns c = let inv = c.loop-t.invariant in
-    let w₀ = c.args.w.now in
-    let x₀ = c.args.st.now in
-    let end : c.loop-t.t ≡ 48 = omega arith in record { lengths = (inv.2, inv.3); schedules = (λ l h. steps-schedule l w₀ c.loop-t.w x₀ c.loop-t.st c.loop-t.t end (inv.4 l h)); states = (λ l h. steps_state l w₀ c.loop-t.w x₀ c.loop-t.st c.loop-t.t end (inv.4 l h)) }
+    let w₀ = c.args.w.now.words in
+    let w = c.loop-t.w.words in
+    let x₀ = c.args.st.now.words in
+    let x = c.loop-t.st.words in
+    let t = c.loop-t.t in
+    let end : t ≡ 48 = omega arith in
+    record { schedules = (λ l h. steps-schedule l w₀ w x₀ x t end (inv.2 l h)); states = (λ l h. steps_state l w₀ w x₀ x t end (inv.2 l h)) }

@@ -1,0 +1,5 @@
+use Rattle.authority.proofs.Listed.{SoundTo}
+use Rattle.authority.proofs.Lines.authorize.Given as goal
+
+abbrev pub invariant-loop-place : goal.invariant-loop-place
+invariant-loop-place l = SoundTo l.self.store.now l.self.named.now l.self.presented l.self.targets l.order l.sound l.place-index
