@@ -2,7 +2,7 @@
 
 #![tactic(auto)]
 
-use event::Refusal;
+use event::{Kind, Refusal};
 use std::io;
 use takes::{Placed, Taken, Tally};
 
@@ -52,7 +52,7 @@ fn offer(store: &mut [u8], count: usize, port: u16) -> Taken<Placed> {
 // An unplug of a port, whose one parent nobody holds.
 fn unplug(port: u16) -> [u8; 192] {
     let mut e = [0u8; 192];
-    e[0] = 4;
+    e[0] = u8::from(Kind::Unplug);
     e[2] = 1;
     octets::paste(&mut e, 8, &port.to_be_bytes());
     e[96] = 7;

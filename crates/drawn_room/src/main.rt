@@ -3,6 +3,7 @@
 
 #![tactic(auto)]
 
+use event::Kind;
 use std::fmt::Display;
 use std::io;
 use unit::{Held, Refusal, Tally};
@@ -15,42 +16,59 @@ fn main(rt: HostRuntime) -> io::Result<()> {
     let j = join(2, &b, &b);
     let r1 = revoke(1, &a, &b, &b);
     let r2 = revoke(0, &c, &a, &j);
-    let table = unit::document_table();
-    let mut store = [0u8; 49152];
-    let started = unit::start(&mut store, &table, &c);
-    let with_a = take(&mut store, started.count, &table, &a);
-    let with_b = take(&mut store, with_a, &table, &b);
-    let with_j = take(&mut store, with_b, &table, &j);
-    let with_r1 = take(&mut store, with_j, &table, &r1);
-    let four = Held {
-        store: &store,
-        count: with_r1,
-        table: &table,
-    };
-    verdict(&rt, four, &j, "5: j ")?;
-    let with_r2 = take(&mut store, with_r1, &table, &r2);
-    let held = Held {
-        store: &store,
-        count: with_r2,
-        table: &table,
-    };
+    let mut room = Room::started(&c);
+    room.take(&a);
+    room.take(&b);
+    room.take(&j);
+    room.take(&r1);
+    verdict(&rt, room.held(), &j, "5: j ")?;
+    room.take(&r2);
+    let held = room.held();
     verdict(&rt, held, &r1, "6: r1 ")?;
     verdict(&rt, held, &j, "6: j ")?;
     order_and_map(&rt, held)?;
     look_up(&rt, held, &j)?;
     short_table(&rt, held)?;
-    carry_over(&rt, held, &table, &j)
+    carry_over(&rt, held, &room.table, &j)
 }
 
-// The count after a take.
-fn take(store: &mut [u8; 49152], count: usize, table: &[u8; 512], e: &[u8; 192]) -> usize {
-    unit::take(store, count, table, e).count
+// What a unit is lent: its store, how many events are in it, and the cord table.
+#[derive(Drop)]
+struct Room {
+    store: [u8; 49152],
+    count: usize,
+    table: [u8; 512],
+}
+
+impl Room {
+    fn started(creator: &[u8; 192]) -> Room {
+        let table = unit::document_table();
+        let mut store = [0; 49152];
+        let count = unit::start(&mut store, &table, creator).count;
+        Room {
+            store,
+            count,
+            table,
+        }
+    }
+
+    fn take(&mut self, e: &[u8; 192]) {
+        self.count = unit::take(&mut self.store, self.count, &self.table, e).count;
+    }
+
+    fn held(&self) -> Held<'_, '_> {
+        Held {
+            store: &self.store,
+            count: self.count,
+            table: &self.table,
+        }
+    }
 }
 
 // An event with one parent, by an author under a grant.
-fn event(kind: u8, author: u8, under: &[u8; 192], parent: &[u8; 192]) -> [u8; 192] {
+fn event(kind: Kind, author: u8, under: &[u8; 192], parent: &[u8; 192]) -> [u8; 192] {
     let mut e = [0u8; 192];
-    e[0] = kind;
+    e[0] = u8::from(kind);
     e[1] = author;
     e[2] = 1;
     octets::paste(&mut e, 32, &sha256::event_id(under));
@@ -60,21 +78,21 @@ fn event(kind: u8, author: u8, under: &[u8; 192], parent: &[u8; 192]) -> [u8; 19
 
 // All rights for a subject.
 fn grant(author: u8, subject: u8, under: &[u8; 192], parent: &[u8; 192]) -> [u8; 192] {
-    let mut e = event(1, author, under, parent);
+    let mut e = event(Kind::Grant, author, under, parent);
     e[3] = 7;
     e[4] = subject;
     e
 }
 
 fn revoke(author: u8, under: &[u8; 192], target: &[u8; 192], parent: &[u8; 192]) -> [u8; 192] {
-    let mut e = event(2, author, under, parent);
+    let mut e = event(Kind::Revoke, author, under, parent);
     octets::paste(&mut e, 64, &sha256::event_id(target));
     e
 }
 
 // A cord of 12 m between ports 3 and 7, kinds 4 and 5.
 fn join(author: u8, under: &[u8; 192], parent: &[u8; 192]) -> [u8; 192] {
-    let mut e = event(3, author, under, parent);
+    let mut e = event(Kind::Join, author, under, parent);
     e[5] = 4;
     e[6] = 5;
     e[9] = 3;

@@ -1,2 +1,3 @@
 pub mod FirstEvent
 pub mod Long
+pub mod Started

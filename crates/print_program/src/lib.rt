@@ -5,7 +5,9 @@
 
 ghost use Rattle.std.specs.Prelude.{◌≡◌, ◌≤◌, length, take};
 ghost use Rattle.std.specs.Io.{ReadsAtMost};
-ghost use Rattle.print_program.specs.Page.{held_page, taken_page, started_page, page_of};
+ghost use Rattle.event.specs.Answers.{answer_of};
+ghost use Rattle.reports.specs.Reports.{answered};
+ghost use Rattle.print_program.specs.Page.{taken_text, file_text, page_of};
 
 use event::Refusal;
 use std::fs::File;
@@ -13,42 +15,24 @@ use std::io::{self, Read};
 use std::rt::Files;
 use unit::Held;
 
-// Arrays by their length alone: a long list stays out of the proofs.
-fn file_area() -> [u8; 65537]
-    ensures { 65537 ≡ length result }
+// An array by its length alone: a long list stays out of the proofs.
+pub fn area<const N: usize>() -> [u8; N]
+    ensures { N ≡ length result }
 {
-    [0; 65537]
+    [0; N]
 }
 
-pub fn store_area() -> [u8; 49152]
-    ensures { 49152 ≡ length result }
-{
-    [0; 49152]
-}
-
-pub fn text_area() -> [u8; 8192]
-    ensures { 8192 ≡ length result }
-{
-    [0; 8192]
-}
-
-// Writes the text of the events held, or the line of a refusal, to the front of the output; answers how many bytes that is.
-fn write_held(held: Held, out: &mut [u8]) -> usize
-    requires { 12 ≤ length out.old }
-    ensures { take result out.new ≡ held_page held.entry.table.now held.entry.store.now held.entry.count out.old }
-{
-    match unit::text(held, out) {
-        Ok(n) => n,
-        Err(refusal) => text_format::refusal_line(u8::from(refusal), out),
-    }
-}
-
-// Takes the whole file into a started unit, and writes its text. The take is not refused: a file with a first event passes check 8,
-// and a start leaves a store that passes check 2.
-fn write_taken(file: &[u8], store: &mut [u8], count: usize, table: &[u8], out: &mut [u8]) -> usize
-    requires { 12 ≤ length out.old }
-    ensures { take result out.new
-        ≡ taken_page table.now file.now store.old count out.old }
+// Takes the whole file into a started unit, and writes the text of the events held. The take is not refused: a file with a first event
+// passes check 8, and a start leaves a store that passes check 2.
+fn write_taken(
+    file: &[u8],
+    store: &mut [u8],
+    count: usize,
+    table: &[u8],
+    out: &mut [u8],
+) -> Result<usize, Refusal>
+    ensures { answered (answer_of result) out.new
+        ≡ taken_text table.now file.now store.old count out.old }
 {
     let taken = unit::take_bundle(store, count, table, file);
     let held = Held {
@@ -56,49 +40,47 @@ fn write_taken(file: &[u8], store: &mut [u8], count: usize, table: &[u8], out: &
         count: taken.count,
         table,
     };
-    write_held(held, out)
+    unit::text(held, out)
 }
 
-// Starts a unit with an event, takes the whole file into it, and writes its text.
-fn write_started(file: &[u8], first: &[u8], store: &mut [u8], table: &[u8], out: &mut [u8]) -> usize
-    requires { 12 ≤ length out.old }
-    ensures { take result out.new
-        ≡ started_page table.now file.now first.now store.old out.old }
+// Starts a unit with the first event of a file, takes the whole file into it, and writes its text. Each call is lent document 01's cord table.
+#[tactic(auto, using(crate::proofs::Long::long_refused))]
+fn write_file(file: &[u8], store: &mut [u8], out: &mut [u8]) -> Result<usize, Refusal>
+    ensures { answered (answer_of result) out.new ≡ file_text file.now store.old out.old }
 {
-    let started = unit::start(store, table, first);
-    match started.answer {
-        Ok(_) => write_taken(file, store, started.count, table, out),
-        Err(refusal) => text_format::refusal_line(u8::from(refusal), out),
+    if 65536 < file.len() {
+        return Err(Refusal::BadBundle);
     }
+    let first = unit::first_event(file)?;
+    let table = unit::document_table();
+    let started = unit::start(store, &table, first);
+    started.answer?;
+    write_taken(file, store, started.count, &table, out)
 }
 
 // Writes what the program writes for a room.bun of these bytes to the front of the output; answers how many bytes that is.
-// The store is room to work in. Each call is lent document 01's cord table.
-#[tactic(auto, using(crate::proofs::Long::long_refused))]
+// The store is room to work in.
 pub fn page(file: &[u8], store: &mut [u8], out: &mut [u8]) -> usize
     requires { 12 ≤ length out.old }
     ensures { take result out.new ≡ page_of file.now store.old out.old }
 {
-    if 65536 < file.len() {
-        return text_format::refusal_line(8, out);
-    }
-    match unit::first_event(file) {
-        Ok(first) => write_started(file, first, store, &unit::document_table(), out),
+    match write_file(file, store, out) {
+        Ok(n) => n,
         Err(refusal) => text_format::refusal_line(u8::from(refusal), out),
     }
 }
 
 // Writes the line of a refusal.
-fn refuse(rt: &impl Print, number: u8) -> io::Result<()> {
+fn refuse(rt: &impl Print, refusal: Refusal) -> io::Result<()> {
     let mut line = [0u8; 12];
-    let n = text_format::refusal_line(number, &mut line);
+    let n = text_format::refusal_line(u8::from(refusal), &mut line);
     rt.write_all(octets::part(&line, 0, n))
 }
 
 // Writes the page of the file's bytes. The text of 256 events is never longer than the area.
 fn print_bytes(rt: &impl Print, file: &[u8]) -> io::Result<()> {
-    let mut store = store_area();
-    let mut out = text_area();
+    let mut store = area::<49152>();
+    let mut out = area::<8192>();
     let n = page(file, &mut store, &mut out);
     rt.write_all(octets::part(&out, 0, n))
 }
@@ -109,6 +91,7 @@ pub fn read_full(input: &mut impl Read, buf: &mut [u8]) -> io::Result<usize>
     ensures { ReadsAtMost result buf.new }
 {
     let mut done = 0;
+    // Kept, no plainer: each read says where the next one starts. `read_exact` fails on a shorter file, and `read_to_end` wants a heap.
     while done < buf.len() {
         let more = input.read(&mut buf[done..])?;
         if more == 0 {
@@ -128,9 +111,9 @@ fn read_room(rt: &impl Files, buf: &mut [u8]) -> io::Result<usize> {
 // A file that is absent or cannot be read to its end is refused here: a part of a room is not printed for the whole. Of a file one
 // byte more than the limit is read at most, by which `page` tells a longer one.
 pub fn print(rt: &(impl Files + Print)) -> io::Result<()> {
-    let mut file = file_area();
+    let mut file = area::<65537>();
     match read_room(rt, &mut file) {
         Ok(n) => print_bytes(rt, octets::part(&file, 0, n)),
-        Err(_) => refuse(rt, u8::from(Refusal::BadBundle)),
+        Err(_) => refuse(rt, Refusal::BadBundle),
     }
 }

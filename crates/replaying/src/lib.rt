@@ -8,20 +8,19 @@ mod lines;
 mod script;
 
 use crate::bench::Bench;
-use crate::script::{Operation, PAYLOAD_BYTES, ScriptError, read_record};
+use crate::script::{PAYLOAD_BYTES, ScriptError, read_record};
 use std::io;
 
-// Runs record after record. A loop has to end, and nothing says that a script does: the loop counts its turns down from a number
-// that no script uses up. The reader is asked for anew each time: it holds nothing back, since nobody calls its `fill_buf`.
+// Runs record after record. The reader is asked for anew each time: it holds nothing back, since nobody calls its `fill_buf`.
 fn run(rt: &(impl Input + Print)) -> Result<(), ScriptError> {
     let mut bench = Bench::new();
     let mut area = [0; PAYLOAD_BYTES];
+    // Kept, proof: a loop has to end, and nothing says that a script does; so it counts up to a number that no script uses up.
     for _ in 0..u64::MAX {
-        let Some((letter, length)) = read_record(&mut rt.reader(), &mut area)? else {
+        let Some(record) = read_record(&mut rt.reader(), &mut area)? else {
             return Ok(());
         };
-        let operation = Operation::try_from(letter)?;
-        bench.perform(rt, operation, octets::part(&area, 0, length))?;
+        bench.perform(rt, record)?;
     }
     Ok(())
 }

@@ -64,6 +64,16 @@ impl Display for Figures {
     }
 }
 
+// What a bundle answers: its figures, after their name.
+#[derive(Clone, Copy)]
+pub struct Bundled(pub Tally);
+
+impl Display for Bundled {
+    fn fmt<W: fmt::Write>(&self, f: &mut Formatter<W>) -> fmt::Result {
+        write!(f, "figures {}", Figures(self.0))
+    }
+}
+
 // The figures of a map.
 #[derive(Clone, Copy)]
 pub struct Links(pub MapFigures);

@@ -81,12 +81,18 @@ pub fn number(payload: &[u8], most: usize) -> Result<usize, ScriptError>
     Ok(n)
 }
 
-// Reads a record, whose payload goes to the front of the payload area: its letter and the payload's length, or none at the
-// script's end.
-pub fn read_record(
+// What a script asks for, and with which bytes.
+#[derive(Clone, Copy)]
+pub struct Record<'a> {
+    pub operation: Operation,
+    pub payload: &'a [u8],
+}
+
+// Reads a record, whose payload goes to the front of the payload area, or none at the script's end.
+pub fn read_record<'a>(
     input: &mut impl Read,
-    area: &mut [u8],
-) -> Result<Option<(u8, usize)>, ScriptError> {
+    area: &'a mut [u8],
+) -> Result<Option<Record<'a>>, ScriptError> {
     let mut header = [0u8; 5];
     let got = read_full(input, &mut header)?;
     if got == 0 {
@@ -99,5 +105,7 @@ pub fn read_record(
     if read_full(input, &mut area[..length])? < length {
         return Err(ScriptError::Bad);
     }
-    Ok(Some((header[0], length)))
+    let operation = Operation::try_from(header[0])?;
+    let payload = &area[..length];
+    Ok(Some(Record { operation, payload }))
 }

@@ -3,6 +3,7 @@
 // refusal's number of document 01; what it answers besides goes to numbers behind pointers, which a refusal leaves as they were, but for the count of
 // a refused start, which is 0. Each makes one call of `unit`, or of the crate below it that answers by value, and shows the answer;
 // `include/pelchunda.h` declares them.
+// Kept, for C: a refusal is a number, what is answered goes behind pointers, and store, count and table come apart.
 
 #![tactic(auto)]
 
@@ -45,18 +46,25 @@ pub extern "C" fn pelchunda_version() -> u32
     VERSION
 }
 
+// The number that a refusal shows; 0 for an answer.
+fn number<A>(answer: &Result<A, Refusal>) -> u8
+    ensures { result ≡ shown_number (answer_of answer.now) }
+{
+    match answer {
+        Ok(_) => 0,
+        Err(refusal) => u8::from(*refusal),
+    }
+}
+
 // An answer: 0 and its value, or the refusal's number, which leaves what stood there.
 fn show<A: Copy>(answer: Result<A, Refusal>, value: &mut A) -> u8
     ensures number { result ≡ shown_number (answer_of answer) }
     ensures value { value.new ≡ kept (λ a. a) value.old (answer_of answer) }
 {
-    match answer {
-        Ok(found) => {
-            *value = found;
-            0
-        }
-        Err(refusal) => u8::from(refusal),
+    if let Ok(found) = &answer {
+        *value = *found;
     }
+    number(&answer)
 }
 
 // Writes document 01's cord table, 512 bytes, to the front of the output.
@@ -65,7 +73,7 @@ pub extern "C" fn pelchunda_document_table(out: &mut [u8]) -> u8
     ensures { show_output (document_of out.old) ≡ record { number = result; buffer = out.new; behind = [] } }
 {
     if out.len() < cords::TABLE_BYTES {
-        return 10;
+        return u8::from(Refusal::ShortOutput);
     }
     let table = unit::document_table();
     octets::paste(out, 0, &table);
@@ -85,10 +93,7 @@ pub extern "C" fn pelchunda_start(
 {
     let started = unit::start(store, table, event);
     *count = started.count;
-    match started.answer {
-        Ok(_) => 0,
-        Err(refusal) => u8::from(refusal),
-    }
+    number(&started.answer)
 }
 
 // Takes one event: `repeat` is 0 where it was stored, 1 where its id is held already.
@@ -206,15 +211,13 @@ pub extern "C" fn pelchunda_map(
         count,
         table,
     };
-    match unit::map(held, out) {
-        Ok(figures) => {
-            *rows = figures.rows;
-            *ended = figures.ended;
-            *joins = figures.joins;
-            0
-        }
-        Err(refusal) => u8::from(refusal),
+    let answer = unit::map(held, out);
+    if let Ok(figures) = answer {
+        *rows = figures.rows;
+        *ended = figures.ended;
+        *joins = figures.joins;
     }
+    number(&answer)
 }
 
 // Writes all held events to the output as a bundle; `bytes` is its length.
@@ -312,10 +315,10 @@ pub extern "C" fn pelchunda_id(event: &[u8], id: &mut [u8]) -> u8
     ensures { show_output (id_of event.now id.old) ≡ record { number = result; buffer = id.new; behind = [] } }
 {
     if event.len() != EVENT_BYTES {
-        return 1;
+        return u8::from(Refusal::WrongLength);
     }
     if id.len() < ID_BYTES {
-        return 10;
+        return u8::from(Refusal::ShortOutput);
     }
     let digest = sha256::event_id(event);
     octets::paste(id, 0, &digest);
@@ -329,10 +332,10 @@ pub extern "C" fn pelchunda_ids(events: &[u8], ids: &mut [u8]) -> u8
 {
     let n = events.len() / EVENT_BYTES;
     if !((events.len() == n * EVENT_BYTES) & (n <= bundles::MOST_EVENTS)) {
-        return 1;
+        return u8::from(Refusal::WrongLength);
     }
     if ids.len() < n * ID_BYTES {
-        return 10;
+        return u8::from(Refusal::ShortOutput);
     }
     event_ids::find_ids(events, n, ids);
     0

@@ -9,7 +9,7 @@ use Rattle.unit_c.proofs.pelchunda_document_table.Goals as goal
 
 pub returns-then-out-lt-TABLE_BYTES : goal.returns-then-out-lt-TABLE_BYTES
 unfolding document_of
-returns-then-out-lt-TABLE_BYTES c = rw (lt-leb 512 (length c.args.out.now) (omega (arith, c.if-out-lt-TABLE_BYTES.true))) refl
+returns-then-out-lt-TABLE_BYTES c = rw (lt-leb 512 (length c.args.out.now) (omega (arith, c.if-out-lt-TABLE_BYTES.true)), c.from.ensures) refl
 
 pub returns : goal.returns
 returns c = let a = c.args in

@@ -8,12 +8,12 @@ use Rattle.unit_c.proofs.pelchunda_id.Goals as goal
 
 pub returns-then-event-ne-EVENT_BYTES : goal.returns-then-event-ne-EVENT_BYTES
 unfolding id_of
-returns-then-event-ne-EVENT_BYTES c = rw (ne_eqb _ _ c.if-event-ne-EVENT_BYTES.true) refl
+returns-then-event-ne-EVENT_BYTES c = rw (ne_eqb _ _ c.if-event-ne-EVENT_BYTES.true, c.from.ensures) refl
 
 pub returns-then-id-lt-ID_BYTES : goal.returns-then-id-lt-ID_BYTES
 unfolding id_of
 returns-then-id-lt-ID_BYTES c = let id = length c.args.id.now in
-    rw (eq-eqb _ _ c.if-event-ne-EVENT_BYTES.false, lt-leb 32 id c.if-id-lt-ID_BYTES.true) refl
+    rw (eq-eqb _ _ c.if-event-ne-EVENT_BYTES.false, lt-leb 32 id c.if-id-lt-ID_BYTES.true, c.from-then-id-lt-ID_BYTES.ensures) refl
 
 pub returns : goal.returns
 returns c = let a = c.args in
