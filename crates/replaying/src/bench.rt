@@ -40,7 +40,7 @@ pub struct Bench {
 }
 
 impl Bench {
-    pub fn new() -> Bench {
+    pub(crate) fn new() -> Bench {
         let mut table = [0; 1024];
         octets::paste(&mut table, 0, &cords::document_table());
         Bench {
@@ -67,7 +67,11 @@ impl Bench {
     }
 
     // Runs the operation of a record.
-    pub fn perform(&mut self, rt: &impl Print, record: Record<'_>) -> Result<(), ScriptError> {
+    pub(crate) fn perform(
+        &mut self,
+        rt: &impl Print,
+        record: Record<'_>,
+    ) -> Result<(), ScriptError> {
         let payload = record.payload;
         match record.operation {
             Operation::Start => {

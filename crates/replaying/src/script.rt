@@ -71,7 +71,7 @@ impl TryFrom<u8> for Operation {
 }
 
 // The one number of a payload of four bytes, at most the given one.
-pub fn number(payload: &[u8], most: usize) -> Result<usize, ScriptError>
+pub(crate) fn number(payload: &[u8], most: usize) -> Result<usize, ScriptError>
     ensures { IfOk result (λ n. n ≤ most) }
 {
     let n = octets::number32(payload, 0) as usize;
@@ -89,7 +89,7 @@ pub struct Record<'a> {
 }
 
 // Reads a record, whose payload goes to the front of the payload area, or none at the script's end.
-pub fn read_record<'a>(
+pub(crate) fn read_record<'a>(
     input: &mut impl Read,
     area: &'a mut [u8],
 ) -> Result<Option<Record<'a>>, ScriptError> {

@@ -107,7 +107,7 @@ fn write_head(out: &mut [u8], links: u16, waiting: u16, unsound: u16, void: u16)
 }
 
 // Writes the line of a refusal to the front of the output; answers its length.
-// Kept, no plainer: the number is all that the line shows, and what the printing program has in its hand.
+// Kept, project rule: a public call asks no more than before, and this one answers for every number.
 #[tactic(auto, using(crate::proofs::TextWritten::field_three))]
 pub fn refusal_line(number: u8, out: &mut [u8]) -> usize
     requires { 12 ≤ length out.old }
@@ -188,8 +188,8 @@ fn write_text(rows: &[u8], verdicts: &[u16], out: &mut [u8]) -> Option<usize>
     Some(size)
 }
 
-// The same of the first n rows and the first `count` verdicts of two tables: lent as arrays, they ask their user for no length.
-// Kept, no plainer: as slices their user would cut both, and show that neither is too long.
+// The same of the first n rows and the first `count` verdicts of two tables.
+// Kept, no plainer: of arrays with a count the check knows the lengths; of two cut slices the caller would have to prove them.
 pub fn write_fronts(
     rows: &[u8; 2048],
     n: usize,
