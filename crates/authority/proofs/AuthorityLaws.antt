@@ -1,7 +1,7 @@
 -- The tables of presented places, targets and sound places say what the model says of the held events.
 use Prim.Native.Nat.{ℕ, zero, suc, ◌+◌, ◌*◌, ◌<◌, ◌≤◌}
 use Rattle.std.proofs.Common.{arith, sym, ap₂, ◌∙◌}
-use Rattle.std.specs.Prelude.{◌≡◌, Bool, false, get_or, take, drop}
+use Rattle.std.specs.Prelude.{◌≡◌, Bool, false, get_or, drop}
 use Rattle.std.proofs.Math.Path.{refl, ap}
 use Rattle.std.proofs.Math.Bool.{true, ◌&&◌, and-true, and-false, and_assoc}
 use Rattle.std.proofs.Math.Option.{Option, none, some}
@@ -77,34 +77,34 @@ module _ {store : Bytes} {n : ℕ} {ids : Bytes} {index P T : List ℕ} {M : Lis
     no_create = kind_other (event_at store k) (later_at k h not_first).no_create
 
     -- a parent is settled and has a lower level: the table is right about it
-    parent_is : (a : Id) → Memᴰ a (held_at store k).parents → parent_sound S (place_by n ids index a) ≡ sound seen a
-    parent_is a m = by_slot (slot_in ids 0 (take n index) a) at gone
+    parent_is : (a : Id) → Memᴰ a (held_at store k).parents → parent_sound S (place_by ids index a) ≡ sound seen a
+    parent_is a m = by_slot (slot_in ids 0 index a) at gone
       where
-        level : (get_or T (place_by n ids index a) 0 ≡ 0 → ⊥) × (get_or T (place_by n ids index a) 0 < get_or T k 0)
+        level : (get_or T (place_by ids index a) 0 ≡ 0 → ⊥) × (get_or T (place_by ids index a) 0 < get_or T k 0)
         level =
             let w = settled→ seen (id_of store k) (settled_at tables k h s) in
             let u = (height→ held (id_of store k) (held_at store k) w.0 (found tables k h) no_create w.1).each a m in
             let above = levels_heights tables.levelled a in
-            let below = level_from (get_or T (place_by n ids index a) 0) u.0 (above ∙ u.1) in
+            let below = level_from (get_or T (place_by ids index a) 0) u.0 (above ∙ u.1) in
             let here = level_from (get_or T k 0) w.0 (level_is tables k h ∙ w.1) in
             ((λ z. omega (arith, below, z)), omega (arith, below, here, u.2))
 
-        at : (p : ℕ) → slot_in ids 0 (take n index) a ≡ Held p → parent_sound S (place_by n ids index a) ≡ sound seen a
+        at : (p : ℕ) → slot_in ids 0 index a ≡ Held p → parent_sound S (place_by ids index a) ≡ sound seen a
         at p e =
             let place = slot_place tables.levelled.loaded a p e in
             rw (e, ne_eqb p no_place (λ z. omega (arith, few tables, place.0, z))) (right p place.0 (rw e at level.1) ∙ ap (sound seen) place.1)
 
-        gone : (g : ℕ) → slot_in ids 0 (take n index) a ≡ Err g → parent_sound S (place_by n ids index a) ≡ sound seen a
+        gone : (g : ℕ) → slot_in ids 0 index a ≡ Err g → parent_sound S (place_by ids index a) ≡ sound seen a
         gone g e = absurd (level.0 (rw e (get_or-eq_default T 0 (omega (arith, few tables, tables.levelled.long)))))
 
     -- where parent j stands, and that no parent j is
-    place_some : (j : ℕ) → j < 3 → j < parent_count (event_at store k) → get_or P (k * 5 + j) 0 ≡ place_by n ids index (parent_id (event_at store k) j)
+    place_some : (j : ℕ) → j < 3 → j < parent_count (event_at store k) → get_or P (k * 5 + j) 0 ≡ place_by ids index (parent_id (event_at store k) j)
     place_some j = entry_some tables.levelled.loaded tables.levelled.reads k j h
 
     place_none : (j : ℕ) → j < 3 → parent_count (event_at store k) ≤ j → get_or P (k * 5 + j) 0 ≡ no_place
     place_none j = entry_none tables.levelled.loaded tables.levelled.reads k j h
 
-    place_first : 1 ≤ parent_count (event_at store k) → get_or P (k * 5) 0 ≡ place_by n ids index (parent_id (event_at store k) 0)
+    place_first : 1 ≤ parent_count (event_at store k) → get_or P (k * 5) 0 ≡ place_by ids index (parent_id (event_at store k) 0)
     place_first = first_some tables.levelled.loaded tables.levelled.reads k h
 
     parents_are : parents_sound P S k ≡ parents_sound_in (sound seen) (held_at store k)
@@ -115,7 +115,7 @@ module _ {store : Bytes} {n : ℕ} {ids : Bytes} {index P T : List ℕ} {M : Lis
         id j = parent_id (event_at store k) j
 
         Each : ℕ → Type 0
-        Each c = (a : Id) → Memᴰ a (chunks 32 (drop 96 (event_at store k)) c) → parent_sound S (place_by n ids index a) ≡ sound seen a
+        Each c = (a : Id) → Memᴰ a (chunks 32 (drop 96 (event_at store k)) c) → parent_sound S (place_by ids index a) ≡ sound seen a
 
         go : (c : ℕ) → parent_count (event_at store k) ≡ c → Each c
             → parents_sound P S k ≡ all_of (sound seen) (chunks 32 (drop 96 (event_at store k)) c)

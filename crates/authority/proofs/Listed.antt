@@ -1,11 +1,13 @@
 -- Tables that a loop fills at the places of a list.
 use Prim.Native.Nat.{ℕ, ◌+◌, ◌*◌, ◌<◌, ◌≤◌}
 use native.Mathlib.Omega.{arith}
-use mathlib.Core.Path.{◌≡◌, ◌∙◌}
+use mathlib.Core.Path.{◌≡◌, ap, ◌∙◌}
 use mathlib.Core.Bool.{Bool, false}
 use mathlib.Core.Logic.{⊎_elim}
 use mathlib.Core.List.Memᴰ
-use mathlib.Core.List.{List, Memᴰ}
+use mathlib.Core.List.{List, map, Memᴰ}
+use Rattle.std.specs.Prelude.{Option, None}
+use Rattle.std.proofs.lemmas.List.{length-map, map-set}
 use lib.Dec.{eqb, ltb}
 use lib.ListN.{length, get_or, take, set, length-set, replicate, length-replicate, get_or-replicate}
 use Rattle.std.proofs.Math.ListN.{get_or-eq_default}
@@ -13,17 +15,12 @@ use lib.Seq.{get_or-set_same, get_or-set_other}
 use borrow.Author.Tests.{eqb-true, eqb-false, ltb-true, ltb-false}
 use Rattle.lists.specs.Bytes.{Bytes}
 use Rattle.lists.specs.Cases.{by_bool}
-use Rattle.lists.proofs.Sorting.{mem_get_d}
 use Rattle.ordering.specs.Order.{Ordered}
 use Rattle.ordering.proofs.OrderLaws.{parents_listed}
 use Rattle.tables.specs.declared.BitRow.{BitRow}
 use Rattle.tables.specs.Filling.{more→, more←, last}
-use Rattle.authority.specs.Found.{ancestor_by, ancestor_place, target_by, NamedAncestors}
+use Rattle.authority.specs.Found.{ancestor_by, place_number, target_by, NamedAncestors}
 use Rattle.authority.specs.Sound.{parents_sound, sound_at, SoundTable}
-
--- a listed place
-pub listed_low : (l : List ℕ) (i : ℕ) → ((k : ℕ) → Memᴰ k l → k < 256) → i < length l → get_or l i 0 < 256
-listed_low l i low h = low (get_or l i 0) (mem_get_d l i 0 h)
 
 -- one place more
 listed_more : {X : Type 0} (d : X) (f : ℕ → X) (l : List ℕ) (A : List X) (i : ℕ) (v : X) → i < length l → get_or l i 0 < length A
@@ -39,24 +36,40 @@ listed_more d f l A i v h low filled e k m =
 -- ── presented places and targets ────────────────────────────────────────────────────────────────────────────────────────
 
 -- after the first i places
-pub record NamedTo (store : Bytes) (P : List ℕ) (M : List BitRow) (l Q G : List ℕ) (i : ℕ) : Type 0 where
+pub record NamedTo (store : Bytes) (P : List ℕ) (M : List BitRow) (l : List ℕ) (Q G : List (Option ℕ)) (i : ℕ) : Type 0 where
   pub size_presented : length Q ≡ 256
   pub size_targets : length G ≡ 256
-  pub made : NamedAncestors store P M (take i l) Q G
+  pub made : NamedAncestors store P M (take i l) (map place_number Q) (map place_number G)
 
-module _ (store : Bytes) (P : List ℕ) (M : List BitRow) (l Q G : List ℕ) (i : ℕ) (d : NamedTo store P M l Q G i) (h : i < length l) (low : get_or l i 0 < 256) where
+pub named_none : (store : Bytes) (P : List ℕ) (M : List BitRow) (l : List ℕ) → NamedTo store P M l (replicate 256 None) (replicate 256 None) 0
+named_none store P M l =
+    record {
+      size_presented = length-replicate {A = Option ℕ} 256 None;
+      size_targets = length-replicate {A = Option ℕ} 256 None;
+      made = record { presents = λ k m. absurd (Memᴰ.not-nil m); names = λ k m. absurd (Memᴰ.not-nil m) };
+    }
+
+module _ (store : Bytes) (P : List ℕ) (M : List BitRow) (l : List ℕ) (Q G : List (Option ℕ)) (i : ℕ) (d : NamedTo store P M l Q G i)
+    (h : i < length l) (low : get_or l i 0 < 256) where
+  -- one entry more of a table of places
+  place_more : (f : ℕ → Option ℕ) (A : List (Option ℕ)) (v : Option ℕ) → length A ≡ 256
+      → ((k : ℕ) → Memᴰ k (take i l) → get_or (map place_number A) k 0 ≡ place_number (f k)) → v ≡ f (get_or l i 0)
+      → (k : ℕ) → Memᴰ k (take (i + 1) l) → get_or (map place_number (set A (get_or l i 0) v)) k 0 ≡ place_number (f k)
+  place_more f A v size made e k m =
+      let inside : get_or l i 0 < length (map place_number A) = omega (arith, low, size, length-map A place_number) in
+      rw (map-set place_number A (get_or l i 0) v)
+      (listed_more 0 (λ k. place_number (f k)) l (map place_number A) i (place_number v) h inside made (ap place_number e) k m)
+
   -- the next place
-  pub named_more : (p t : ℕ) → p ≡ ancestor_place (ancestor_by P M (get_or l i 0) 3)
-      → t ≡ ancestor_place (target_by store P M (get_or l i 0)) → NamedTo store P M l (set Q (get_or l i 0) p) (set G (get_or l i 0) t) (i + 1)
+  pub named_more : (p t : Option ℕ) → p ≡ ancestor_by P M (get_or l i 0) 3 → t ≡ target_by store P M (get_or l i 0)
+      → NamedTo store P M l (set Q (get_or l i 0) p) (set G (get_or l i 0) t) (i + 1)
   named_more p t presents names =
-      let lq : get_or l i 0 < length Q = omega (arith, low, d.size_presented) in
-      let lg : get_or l i 0 < length G = omega (arith, low, d.size_targets) in
       record {
         size_presented = length-set Q (get_or l i 0) p ∙ d.size_presented;
         size_targets = length-set G (get_or l i 0) t ∙ d.size_targets;
         made = record {
-          presents = listed_more 0 (λ k. ancestor_place (ancestor_by P M k 3)) l Q i p h lq d.made.presents presents;
-          names = listed_more 0 (λ k. ancestor_place (target_by store P M k)) l G i t h lg d.made.names names;
+          presents = place_more (λ k. ancestor_by P M k 3) Q p d.size_presented d.made.presents presents;
+          names = place_more (target_by store P M) G t d.size_targets d.made.names names;
         };
       }
 

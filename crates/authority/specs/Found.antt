@@ -14,10 +14,6 @@ use Rattle.tables.specs.Bits.{bit_at}
 use Rattle.ordering.specs.Named.{missing}
 use Rattle.authority.specs.declared.Given.{Given}
 
--- the place that an entry of a table holds
-abbrev pub place_held : ℕ → Option ℕ
-place_held p = cond (ltb p missing) (Some p) None
-
 -- the place p, where it is an ancestor of place k
 abbrev pub ancestor_in : List BitRow → ℕ → ℕ → Option ℕ
 ancestor_in M k p = cond (bit_at M k p) (Some p) None
@@ -26,9 +22,9 @@ ancestor_in M k p = cond (bit_at M k p) (Some p) None
 abbrev pub ancestor_by : List ℕ → List BitRow → ℕ → ℕ → Option ℕ
 ancestor_by P M k j = ancestor_in M k (get_or P (k * 5 + j) 0)
 
--- its place, as the tables hold it
-abbrev pub ancestor_place : Option ℕ → ℕ
-ancestor_place a = unwrap_or a missing
+-- the number of a place, and that of a missing one for none
+abbrev pub place_number : Option ℕ → ℕ
+place_number a = unwrap_or a missing
 
 -- "a revoke's target is an ancestor of kind grant"
 abbrev pub if_grant : Bytes → Option ℕ → Option ℕ
@@ -40,8 +36,8 @@ target_by store P M k = if_grant store (ancestor_by P M k 4)
 
 -- the tables of presented places and of targets, an entry for each listed place
 pub record NamedAncestors (store : Bytes) (P : List ℕ) (M : List BitRow) (l Q G : List ℕ) : Type 0 where
-  pub presents : (k : ℕ) → Memᴰ k l → get_or Q k 0 ≡ ancestor_place (ancestor_by P M k 3)
-  pub names : (k : ℕ) → Memᴰ k l → get_or G k 0 ≡ ancestor_place (target_by store P M k)
+  pub presents : (k : ℕ) → Memᴰ k l → get_or Q k 0 ≡ place_number (ancestor_by P M k 3)
+  pub names : (k : ℕ) → Memᴰ k l → get_or G k 0 ≡ place_number (target_by store P M k)
 
 -- what the ancestor at place p gives, with its place
 abbrev pub given_from : ℕ → ModelOption Grant → Option Given

@@ -1,5 +1,5 @@
 -- The held events by their places: ancestors, lines, and the targets of revokes.
-use Rattle.std.specs.Prelude.{ℕ, zero, suc, ◌+◌, ◌*◌, ◌<◌, ◌≤◌, ◌≡◌, true, ◌&&◌, eqb, take, Some, None}
+use Rattle.std.specs.Prelude.{ℕ, zero, suc, ◌+◌, ◌*◌, ◌<◌, ◌≤◌, ◌≡◌, true, ◌&&◌, eqb, Some, None}
 use Rattle.std.proofs.Common.{arith, sym, ◌∙◌}
 use Rattle.std.proofs.Math.Path.{ap, ap₂}
 use Rattle.std.proofs.Math.Logic.{⊎_elim}
@@ -32,7 +32,7 @@ use Rattle.ordering.proofs.Placed.{find_place, same_place, slot_place, settled_l
 use Rattle.tables.specs.declared.BitRow.{BitRow}
 use Rattle.tables.specs.Bits.{bit_high}
 use Rattle.ancestry.specs.Ancestors.{AncestorBits}
-use Rattle.authority.specs.Found.{ancestor_by, ancestor_place, target_by}
+use Rattle.authority.specs.Found.{ancestor_by, place_number, target_by}
 use Rattle.authority.specs.Lines.{line_from}
 use Rattle.authority.specs.Sound.{target_suits_at}
 
@@ -41,8 +41,8 @@ use Rattle.authority.specs.Sound.{target_suits_at}
 pub record Tables (store : Bytes) (n : ℕ) (ids : Bytes) (index P T : List ℕ) (M : List BitRow) (Q G : List ℕ) : Type 0 where
   pub levelled : Levelled store n ids index P T
   pub ancestors : AncestorBits store n T M
-  pub presents : (k : ℕ) → k < n → (get_or T k 0 ≡ 0 → ⊥) → get_or Q k 0 ≡ ancestor_place (ancestor_by P M k 3)
-  pub names : (k : ℕ) → k < n → (get_or T k 0 ≡ 0 → ⊥) → get_or G k 0 ≡ ancestor_place (target_by store P M k)
+  pub presents : (k : ℕ) → k < n → (get_or T k 0 ≡ 0 → ⊥) → get_or Q k 0 ≡ place_number (ancestor_by P M k 3)
+  pub names : (k : ℕ) → k < n → (get_or T k 0 ≡ 0 → ⊥) → get_or G k 0 ≡ place_number (target_by store P M k)
 
 -- kind 2 is the revoke
 revoke_kind : (x : Bytes) → revokes (body_of x) ≡ eqb (kind_of x) 2
@@ -130,11 +130,11 @@ module _ {store : Bytes} {n : ℕ} {ids : Bytes} {index P T : List ℕ} {M : Lis
       (λ f. f)
 
   -- an id that the event at a settled place names is that of an ancestor, or of none
-  by_search : {A : Type 0} (k j : ℕ) (a : Id) → k < n → Settled k → get_or P (k * 5 + j) 0 ≡ place_by n ids index a
+  by_search : {A : Type 0} (k j : ℕ) (a : Id) → k < n → Settled k → get_or P (k * 5 + j) 0 ≡ place_by ids index a
       → ((p : ℕ) → ancestor_by P M k j ≡ Some p → AncestorAt store n k a p → A)
       → (ancestor_by P M k j ≡ None → ancestor seen (id_of store k) a ≡ false → A) → A
   by_search k j a h s named at gone =
-      by_slot (slot_in ids 0 (take n index) a)
+      by_slot (slot_in ids 0 index a)
       (λ p e.
       let place = slot_place tables.levelled.loaded a p e in
       let row = tables.ancestors.bit k p h place.0 s ∙ ap (ancestor seen (id_of store k)) place.1 in
@@ -150,8 +150,8 @@ module _ {store : Bytes} {n : ℕ} {ids : Bytes} {index P T : List ℕ} {M : Lis
   unfolding named_place names_id named_id event_of
   by_presented k h s at gone =
       by_search k 3 (presented_of (event_at store k)) h s (entry_at tables.levelled.loaded tables.levelled.reads k 3 h (omega arith))
-      (λ p e w. at p (tables.presents k h s ∙ ap ancestor_place e) w)
-      (λ e f. gone (tables.presents k h s ∙ ap ancestor_place e) f)
+      (λ p e w. at p (tables.presents k h s ∙ ap place_number e) w)
+      (λ e f. gone (tables.presents k h s ∙ ap place_number e) f)
 
   -- ── lines ─────────────────────────────────────────────────────────────────────────────────────────────────────────────
 

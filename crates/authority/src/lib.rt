@@ -3,23 +3,24 @@
 
 #![tactic(auto)]
 
-ghost use Rattle.std.specs.Prelude.{◌≡◌, ℕ, ◌<◌, eqb, false, get_or};
+ghost use Rattle.std.specs.Prelude.{◌≡◌, ℕ, ◌<◌, map, eqb, get_or};
 ghost use mathlib.Core.List.{Memᴰ};
 ghost use Rattle.lists.specs.Tests.{any_of};
 ghost use Rattle.model.specs.Verdicts.{given_by, has, within, right_for, covers_body};
+ghost use Rattle.ordering.specs.Named.{number_of_spot};
 ghost use Rattle.ordering.specs.Order.{Ordered};
-ghost use Rattle.authority.specs.Found.{place_held, ancestor_by, given_from, given_at, target_by, NamedAncestors};
+ghost use Rattle.authority.specs.Found.{place_number, ancestor_by, given_from, given_at, target_by, NamedAncestors};
 ghost use Rattle.authority.specs.Lines.{line_from};
 ghost use Rattle.authority.specs.Sound.{right_number, asked_number, parent_sound, parents_sound, permits_by, target_suits_at, sound_at, SoundTable};
 
-use event::{Body, Grant, NAMED_IDS, Parsed};
-use ordering::{MISSING, NONE};
+use event::{Body, Grant, Parsed};
+use ordering::{Named, Spot};
 use tables::BitRow;
 
 // What P gives, and the place where it stands.
 #[derive(Clone, Copy)]
 pub struct Given {
-    pub place: u16,
+    pub place: u8,
     pub grant: Grant,
 }
 
@@ -33,41 +34,28 @@ enum Right {
 
 // Of the events held, by place: where the ancestor stands that each presents, and the grant among its ancestors that a revoke
 // names.
-// Kept, fixed memory: an entry is MISSING for none, since an `Option` of a place takes four bytes.
 #[derive(Clone, Copy)]
 pub struct Lines<'a> {
     pub store: &'a [u8],
-    pub named: &'a [u16; 1280],
-    pub presented: [u16; 256],
-    pub targets: [u16; 256],
-}
-
-// The entry at an index, false past the end.
-pub fn marked(table: &[bool; 256], index: u16) -> bool
-    ensures { result ≡ get_or table.now index false }
-{
-    table.get(usize::from(index)).copied().unwrap_or(false)
-}
-
-// The place that an entry of a table holds.
-fn place_held(entry: u16) -> Option<u16>
-    ensures { result ≡ place_held entry }
-{
-    (entry < MISSING).then_some(entry)
+    pub named: &'a Named,
+    pub presented: [Option<u8>; 256],
+    pub targets: [Option<u8>; 256],
 }
 
 // Finds the id j that the event at place k names among its ancestors. A row has no bit for what is no place.
-#[tactic(auto, unfolding(tables::specs::Bits::bit_at))]
-fn find_ancestor(named: &[u16; 1280], rows: &[BitRow; 256], k: u8, j: u8) -> Option<u16>
+#[tactic(auto, unfolding(tables::specs::Bits::bit_at, tables::specs::Bits::bit_in))]
+fn find_ancestor(named: &Named, rows: &[BitRow; 256], k: u8, j: u8) -> Option<u8>
     requires { j < 5 }
     ensures { result ≡ ancestor_by named.now rows.now k j }
 {
-    let p = named[usize::from(k) * NAMED_IDS + usize::from(j)];
-    rows[usize::from(k)].has(p).then_some(p)
+    match named.at(k, j) {
+        Spot::At(p) => rows[usize::from(k)].has(u16::from(p)).then_some(p),
+        _ => None,
+    }
 }
 
 // What the ancestor at place p gives: the creator rights 7 to its author, a grant what it says.
-fn given_by(p: u16, e: Parsed) -> Option<Given>
+fn given_by(p: u8, e: Parsed) -> Option<Given>
     ensures { result ≡ given_from p (given_by e.author e.body) }
 {
     match e.body {
@@ -85,32 +73,14 @@ fn given_by(p: u16, e: Parsed) -> Option<Given>
 
 // Finds the grant that the revoke at place k names, among its ancestors; another kind names no target.
 #[tactic(auto, unfolding(event::specs::Contents::contents_of))]
-fn find_target(store: &[u8], named: &[u16; 1280], rows: &[BitRow; 256], k: u8) -> Option<u16>
+fn find_target(store: &[u8], named: &Named, rows: &[BitRow; 256], k: u8) -> Option<u8>
     ensures { result ≡ target_by store.now named.now rows.now k }
 {
     let t = find_ancestor(named, rows, k, event::TARGET)?;
-    match event::read(event::event_at(store, t)).body {
+    match event::read(event::event_at(store, u16::from(t))).body {
         Body::Grant(_) => Some(t),
         _ => None,
     }
-}
-
-// Whether the sought place is on the line of a place: the question is passed to the place that it presents, one step nearer the
-// creator. `left` bounds the steps to the creator and falls at each call.
-#[tactic(auto, using(crate::proofs::Answers::line_none, crate::proofs::Answers::line_step))]
-fn on_line(presented: &[u16; 256], left: u16, sought: u16, place: u16) -> bool
-    ensures { result ≡ any_of (eqb sought) (line_from presented.now left place) }
-{
-    if left == 0 {
-        return false;
-    }
-    let Some(p) = place_held(tables::entry(presented, place)) else {
-        return false;
-    };
-    if sought == p {
-        return true;
-    }
-    on_line(presented, left - 1, sought, p)
 }
 
 // Whether rights r have the right q.
@@ -162,43 +132,43 @@ fn permits(e: Parsed, grant: Grant) -> bool
         && covers_body(grant, e.body)
 }
 
-// Whether the parent at place p is sound; NONE stands for no parent.
-fn parent_sound(sound: &[bool; 256], p: u16) -> bool
-    ensures { result ≡ parent_sound sound.now p }
+// Whether a parent is sound, where there is one.
+fn parent_sound(sound: &[bool; 256], parent: Spot) -> bool
+    ensures { result ≡ parent_sound sound.now (number_of_spot parent) }
 {
-    p == NONE || marked(sound, p)
+    match parent {
+        Spot::Unnamed => true,
+        Spot::Missing => false,
+        Spot::At(p) => sound[usize::from(p)],
+    }
 }
 
 // Whether the parents of the event at place k are sound.
-fn parents_sound(named: &[u16; 1280], sound: &[bool; 256], k: u8) -> bool
+fn parents_sound(named: &Named, sound: &[bool; 256], k: u8) -> bool
     ensures { result ≡ parents_sound named.now sound.now k }
 {
-    let i = usize::from(k) * NAMED_IDS;
-    named[i..i + 3].iter().all(|p| parent_sound(sound, *p))
+    named
+        .parents(k)
+        .iter()
+        .all(|parent| parent_sound(sound, *parent))
 }
 
 impl<'a> Lines<'a> {
     // For each listed place, where the ancestor stands that it presents, and the grant among its ancestors that a revoke names.
-    #[tactic(auto, using(crate::proofs::Listed::listed_low))]
-    pub fn find(
-        store: &'a [u8],
-        named: &'a [u16; 1280],
-        order: &[u16],
-        rows: &[BitRow; 256],
-    ) -> Lines<'a>
+    // Kept, no plainer: casts of places to u8, here and in `authorize`. They are proved to fit, and try_from would have an error that never comes.
+    #[tactic(auto, using(tables::specs::Filling::listed_low, crate::proofs::Listed::named_none))]
+    pub fn find(store: &'a [u8], named: &'a Named, order: &[u16], rows: &[BitRow; 256]) -> Lines<'a>
         requires { (k : ℕ) → Memᴰ k order.now → k < 256 }
         ensures lent { (result.store.now ≡ store.now) × (result.named.now ≡ named.now) }
         ensures found { NamedAncestors store.now named.now rows.now order.now
-            result.presented result.targets }
+            (map place_number result.presented) (map place_number result.targets) }
     {
-        let mut presented = [MISSING; 256];
-        let mut targets = [MISSING; 256];
+        let mut presented = [None; 256];
+        let mut targets = [None; 256];
         for &place in order {
             let k = place as u8;
-            let p = find_ancestor(named, rows, k, event::PRESENTED).unwrap_or(MISSING);
-            let t = find_target(store, named, rows, k).unwrap_or(MISSING);
-            presented[usize::from(k)] = p;
-            targets[usize::from(k)] = t;
+            presented[usize::from(k)] = find_ancestor(named, rows, k, event::PRESENTED);
+            targets[usize::from(k)] = find_target(store, named, rows, k);
         }
         Lines {
             store,
@@ -211,22 +181,37 @@ impl<'a> Lines<'a> {
     // What the event at place k presents, where that gives a grant.
     #[tactic(auto, unfolding(crate::specs::Found::given_at, event::specs::Contents::contents_of))]
     fn given(&self, k: u8) -> Option<Given>
-        ensures { result ≡ given_at self.now.store.now (get_or self.now.presented k 0) }
+        ensures { result ≡ given_at self.now.store.now (get_or (map place_number self.now.presented) k 0) }
     {
-        let p = place_held(self.presented[usize::from(k)])?;
-        given_by(p, event::read(event::event_at(self.store, p)))
+        let p = self.presented[usize::from(k)]?;
+        given_by(p, event::read(event::event_at(self.store, u16::from(p))))
+    }
+
+    // Whether the sought place is on the line of a place: the question is passed to the place that it presents, one step nearer the
+    // creator. `left` bounds the steps to the creator and falls at each call.
+    #[tactic(auto, using(crate::proofs::Answers::no_steps, crate::proofs::Answers::no_more, crate::proofs::Answers::here, crate::proofs::Answers::onward))]
+    fn on_line(&self, left: u16, sought: u8, place: u8) -> bool
+        ensures { result ≡ any_of (eqb sought) (line_from (map place_number self.now.presented) left place) }
+    {
+        if left == 0 {
+            return false;
+        }
+        let Some(p) = tables::entry(&self.presented, u16::from(place), None) else {
+            return false;
+        };
+        sought == p || self.on_line(left - 1, sought, p)
     }
 
     // Whether the target of the event at place k suits. A revoke has one, and the place p of P is on its line; another kind names
     // none. A line has at most 256 places.
     #[tactic(auto, unfolding(crate::specs::Sound::target_suits_at))]
-    fn target_suits(&self, k: u8, body: Body, p: u16) -> bool
-        ensures { result ≡ target_suits_at self.now.presented body p
-            (get_or self.now.targets k 0) }
+    fn target_suits(&self, k: u8, body: Body, p: u8) -> bool
+        ensures { result ≡ target_suits_at (map place_number self.now.presented) body p
+            (get_or (map place_number self.now.targets) k 0) }
     {
         match body {
-            Body::Revoke => match place_held(self.targets[usize::from(k)]) {
-                Some(t) => on_line(&self.presented, store::PLACES, p, t),
+            Body::Revoke => match self.targets[usize::from(k)] {
+                Some(t) => self.on_line(store::PLACES, p, t),
                 None => false,
             },
             _ => true,
@@ -236,8 +221,8 @@ impl<'a> Lines<'a> {
     // Whether the event at place k is sound; `sound` says which of its parents are.
     #[tactic(auto, using(crate::proofs::Answers::given_place), unfolding(crate::specs::Sound::sound_at, event::specs::Contents::contents_of))]
     fn is_sound(&self, sound: &[bool; 256], k: u8) -> bool
-        ensures { result ≡ sound_at self.now.store.now self.now.named.now
-            self.now.presented self.now.targets sound.now k }
+        ensures { result ≡ sound_at self.now.store.now self.now.named.now (map place_number self.now.presented)
+            (map place_number self.now.targets) sound.now k }
     {
         if k == 0 {
             return true;
@@ -253,11 +238,11 @@ impl<'a> Lines<'a> {
     }
 
     // Which listed places are sound. The places stand behind their parents.
-    #[tactic(auto, using(crate::proofs::Listed::listed_low))]
+    #[tactic(auto, using(tables::specs::Filling::listed_low))]
     pub fn authorize(&self, order: &[u16]) -> [bool; 256]
         requires { Ordered self.now.named.now order.now }
-        ensures { SoundTable self.now.store.now self.now.named.now self.now.presented
-            self.now.targets order.now result }
+        ensures { SoundTable self.now.store.now self.now.named.now (map place_number self.now.presented)
+            (map place_number self.now.targets) order.now result }
     {
         let mut sound = [false; 256];
         for &place in order {

@@ -26,9 +26,9 @@ unfolding run_of
 run_is r [] = refl
 run_is r (e ∷ es) = run_is (step document_table r e) es ∙ ap (λ (x : Run). run_by x es) (step_is r e)
 
-pub document_table-kept : DocumentTableKept
+pub document_table_kept : DocumentTableKept
 unfolding start_of bundle_of look_up_of verdict_of order_of map_of written_of text_of
-document_table-kept store count =
+document_table_kept store count =
     record {
       start_same = λ e. rw document_good;
       take_same = take_is store count;

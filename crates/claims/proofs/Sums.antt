@@ -45,9 +45,9 @@ figures_add_up table m b t p =
         ap total same
         ∙ figures_total table m.store m.count (events_in b) (rw count few) ∙ count
 
-pub joins-add_up : JoinsAddUp
+pub joins_add_up : JoinsAddUp
 unfolding map_of
-joins-add_up table m out f p =
+joins_add_up table m out f p =
     by_option (first_failed (write_tests table m.store m.count (map_bytes v) out))
     (λ q.
     let answer : value (figures_of (machine v)) ≡ value f = rw q at p in

@@ -1,7 +1,9 @@
 -- Laws over the words of specs/LentLaws.
 -- What check 12 passes: exactly the strings of 512 bytes whose entries are equal both ways and 0 for unlike families.
-use Rattle.std.specs.Prelude.{ℕ, zero, suc, ◌+◌, ◌*◌, ◌/◌, ◌%◌, ◌<◌, ◌≡◌, refl, Bool, true, false, eqb, ltb, length}
-use Rattle.std.proofs.Common.{arith, sym, ap, ap₂, ◌∙◌}
+use Rattle.std.specs.Prelude.{ℕ, zero, suc, ◌+◌, ◌*◌, ◌/◌, ◌%◌, ◌<◌, ◌≡◌, refl, Bool, true, false, ◌&&◌, eqb, ltb, length}
+use Rattle.std.specs.List.{list_all, range_with_len}
+use Rattle.std.proofs.Common.{arith, add-one, sym, ap, ap₂, ◌∙◌}
+use mathlib.Core.Bool.{and-true, and_assoc}
 use borrow.Author.Tests.{ne_eqb, eqb-true, eqb-false, eq-eqb, ltb-true, ltb-false}
 use Rattle.std.proofs.lemmas.Bool.Decides.{nat_tests}
 use Rattle.lists.specs.Cases.{by_bool, bool_eq, and→, and←}
@@ -21,6 +23,20 @@ pub below← : (test : ℕ → Bool) (n : ℕ) → ((k : ℕ) → k < n → test
 unfolding all_below
 below← test zero h = refl
 below← test (suc n) h = and← (all_below test n) (test n) (below← test n (λ k g. h k (omega arith))) (h n (omega arith))
+
+-- the same, as `all` has it: a test of the numbers from a on, behind that of the numbers below a
+all_from : (test : ℕ → Bool) (n a b : ℕ) → a + n ≡ b → (all_below test a && list_all test (range_with_len a n)) ≡ all_below test b
+unfolding all_below
+all_from test zero a b e = let same : a ≡ b = omega arith in and-true (all_below test a) ∙ ap (all_below test) same
+all_from test (suc n) a b e =
+    let rest = list_all test (range_with_len (a + 1) n) in
+    sym (and_assoc (all_below test a) (test a) rest)
+    ∙ ap (λ t. t && rest) (sym (ap (all_below test) (add-one a)))
+    ∙ all_from test n (a + 1) b (omega arith)
+
+pub all_numbers : (test : ℕ → Bool) (n : ℕ) → list_all test (range_with_len 0 n) ≡ all_below test n
+unfolding all_below
+all_numbers test n = all_from test n 0 n (omega arith)
 
 -- ── one pair ────────────────────────────────────────────────────────────────────────────────────────────────────────────
 

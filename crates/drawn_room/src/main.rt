@@ -3,8 +3,7 @@
 
 #![tactic(auto)]
 
-use event::Kind;
-use std::fmt::Display;
+use event::{Kind, Shown};
 use std::io;
 use unit::{Held, Refusal, Tally};
 
@@ -21,15 +20,15 @@ fn main(rt: HostRuntime) -> io::Result<()> {
     room.take(&b);
     room.take(&j);
     room.take(&r1);
-    verdict(&rt, room.held(), &j, "5: j ")?;
+    verdict(&rt, room.held(), &j, "5: j")?;
     room.take(&r2);
     let held = room.held();
-    verdict(&rt, held, &r1, "6: r1 ")?;
-    verdict(&rt, held, &j, "6: j ")?;
+    verdict(&rt, held, &r1, "6: r1")?;
+    verdict(&rt, held, &j, "6: j")?;
     order_and_map(&rt, held)?;
     look_up(&rt, held, &j)?;
     short_table(&rt, held)?;
-    carry_over(&rt, held, &room.table, &j)
+    carry_over(&rt, held, &j)
 }
 
 // What a unit is lent: its store, how many events are in it, and the cord table.
@@ -41,7 +40,7 @@ struct Room {
 }
 
 impl Room {
-    fn started(creator: &[u8; 192]) -> Room {
+    fn started(creator: &[u8]) -> Room {
         let table = unit::document_table();
         let mut store = [0; 49152];
         let count = unit::start(&mut store, &table, creator).count;
@@ -54,6 +53,22 @@ impl Room {
 
     fn take(&mut self, e: &[u8; 192]) {
         self.count = unit::take(&mut self.store, self.count, &self.table, e).count;
+    }
+
+    fn take_counted(&mut self, e: &[u8; 192], tally: &mut Tally) {
+        self.count = unit::take_counted(&mut self.store, self.count, &self.table, e, tally).count;
+    }
+
+    fn take_bundle_counted(&mut self, bundle: &[u8], tally: &mut Tally) -> Result<Tally, Refusal> {
+        let taken = unit::take_bundle_counted(
+            &mut self.store,
+            self.count,
+            &self.table,
+            bundle,
+            tally,
+        );
+        self.count = taken.count;
+        taken.answer
     }
 
     fn held(&self) -> Held<'_, '_> {
@@ -102,20 +117,15 @@ fn join(author: u8, under: &[u8; 192], parent: &[u8; 192]) -> [u8; 192] {
 }
 
 fn verdict(rt: &impl Print, held: Held, e: &[u8; 192], name: &str) -> io::Result<()> {
-    print!(rt; "{name}")?;
-    say(rt, unit::verdict(held, &sha256::event_id(e)))
+    let answer = unit::verdict(held, &sha256::event_id(e)).map(u8::from);
+    println!(rt; "{name} {}", Shown(answer))
 }
 
 // The number of rows of the order; rows, ended and joins of the map.
 fn order_and_map(rt: &impl Print, held: Held) -> io::Result<()> {
     let mut out = [0u8; 216];
-    print!(rt; "order ")?;
-    say(rt, unit::order(held, &mut out))?;
-    print!(rt; "map ")?;
-    match unit::map(held, &mut out) {
-        Ok(figures) => println!(rt; "{} {} {}", figures.rows, figures.ended, figures.joins),
-        Err(refusal) => say_refusal(rt, refusal),
-    }
+    println!(rt; "order {}", Shown(unit::order(held, &mut out)))?;
+    println!(rt; "map {}", Shown(unit::map(held, &mut out)))
 }
 
 // How many bytes of the store the look-up gives back: an event's.
@@ -128,55 +138,28 @@ fn look_up(rt: &impl Print, held: Held, e: &[u8; 192]) -> io::Result<()> {
 // A cord table of 511 bytes is refused.
 fn short_table(rt: &impl Print, held: Held) -> io::Result<()> {
     let mut out = [0u8; 216];
-    print!(rt; "a table of 511 bytes: ")?;
     let short = Held {
         table: octets::part(held.table, 0, 511),
         ..held
     };
-    say(rt, unit::order(short, &mut out))
+    println!(rt;
+        "a table of 511 bytes: {}",
+        Shown(unit::order(short, &mut out))
+    )
 }
 
 // Writes the events out as a bundle, starts a fresh unit with its first event, gives it one event, then the bundle, both with a tally,
 // and writes its text.
-fn carry_over(rt: &impl Print, held: Held, table: &[u8; 512], e: &[u8; 192]) -> io::Result<()> {
+fn carry_over(rt: &impl Print, held: Held, e: &[u8; 192]) -> io::Result<()> {
     let mut bundle = [0u8; 1164];
-    let mut fresh = [0u8; 49152];
     let mut out = [0u8; 57];
-    print!(rt; "write-out ")?;
-    say(rt, unit::write_out(held, &mut bundle))?;
-    let creator = unit::first_event(&bundle).unwrap_or(&bundle[..0]);
-    let started = unit::start(&mut fresh, table, creator);
-    let first = tally::take_with(&mut fresh, started.count, table, e, Tally::default());
-    let one = first.taken;
-    let counted = tally::bundle_with(&mut fresh, one.count, table, &bundle, first.tally);
-    print!(rt; "bundle ")?;
-    match counted.taken.answer {
-        Ok(figures) => say_figures(rt, figures)?,
-        Err(refusal) => say_refusal(rt, refusal)?,
-    }
-    print!(rt; "tally ")?;
-    say_figures(rt, counted.tally)?;
-    print!(rt; "text ")?;
-    let again = Held {
-        store: &fresh,
-        count: counted.taken.count,
-        table,
-    };
-    say(rt, unit::text(again, &mut out))?;
+    let mut tally = Tally::default();
+    println!(rt; "write-out {}", Shown(unit::write_out(held, &mut bundle)))?;
+    let mut fresh = Room::started(unit::first_event(&bundle).unwrap_or(&bundle[..0]));
+    fresh.take_counted(e, &mut tally);
+    let answer = fresh.take_bundle_counted(&bundle, &mut tally);
+    println!(rt; "bundle {}", Shown(answer))?;
+    println!(rt; "tally {tally}")?;
+    println!(rt; "text {}", Shown(unit::text(fresh.held(), &mut out)))?;
     rt.write_all(&out)
-}
-
-fn say<A: Display + Drop>(rt: &impl Print, answer: Result<A, Refusal>) -> io::Result<()> {
-    match answer {
-        Ok(value) => println!(rt; "{value}"),
-        Err(refusal) => say_refusal(rt, refusal),
-    }
-}
-
-fn say_refusal(rt: &impl Print, refusal: Refusal) -> io::Result<()> {
-    println!(rt; "refused {}", u8::from(refusal))
-}
-
-fn say_figures(rt: &impl Print, figures: Tally) -> io::Result<()> {
-    println!(rt; "{} {} {}", figures.new, figures.repeats, figures.refused)
 }

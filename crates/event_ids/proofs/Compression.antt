@@ -1,14 +1,15 @@
 -- The rounds of one lane, joined to those of FIPS 180-4.
-use mathlib.Core.Path.{◌≡◌, refl, sym, ap, ◌∙◌}
-use mathlib.Core.List.{List}
+use mathlib.Core.Path.{◌≡◌, refl, sym, ap, ap₂, ◌∙◌}
+use mathlib.Core.List.{List, [], ◌∷◌, ◌++◌}
 use Prim.Native.Nat.{ℕ, zero, suc, ◌+◌, ◌-◌, ◌≤◌, ◌<◌}
 use native.Mathlib.Nat.{add-zero, zero-add, add-suc, add_assoc}
 use native.Mathlib.Omega.{arith}
+use native.Mathlib.Numerals.{add-one}
 use lib.ListN.{length, get_or, take, set}
+use lib.Seq.{take-suc-set}
 use Rattle.sha256.specs.Constants.{K}
 use Rattle.sha256.specs.Sha256.{word_at, words, extended, one_round, rounds}
 use Rattle.sha256.specs.declared.State.{State}
-use Rattle.sha256.proofs.Rounds.{words_turn}
 use Rattle.event_ids.proofs.Midway.{Midway, midway_turn, midway_end}
 use Rattle.event_ids.specs.Lanes.{schedule_at, block_at, state_at, Lane, lane_at, one_step, steps, rounds_from}
 use Rattle.event_ids.proofs.Columns.{length-column}
@@ -78,7 +79,12 @@ pub rounds-all : (w : List ℕ) (s : State) {r : State} → r ≡ rounds_from 0 
 unfolding rounds
 rounds-all w s e = e ∙ sym (rounds_join 0 64 w s)
 
--- one more word of a block, in lane l
+-- one more word of a block
+words_turn : (b w : List ℕ) (i v : ℕ) → i < length w → take i w ≡ words i b → v ≡ word_at b i → take (i + 1) (set w i v) ≡ words (i + 1) b
+unfolding words
+words_turn b w i v h e f = rw add-one (take-suc-set w i v h ∙ ap₂ (λ (x : List ℕ) (y : ℕ). x ++ (y ∷ [])) e f)
+
+-- the same, in lane l
 pub load_turn : (block w w' : List ℕ) (l j : ℕ) → j < 16 → take j (schedule_at l w) ≡ words j block
     → schedule_at l w' ≡ set (schedule_at l w) j (word_at block j) → take (j + 1) (schedule_at l w') ≡ words (j + 1) block
 load_turn block w w' l j h e f =

@@ -1,5 +1,5 @@
-// SHA-256 of four events side by side. The word j of lane l stands at l + j * 4 of an array, and the innermost loop is over
-// the lanes, four rounds in its body: the compiler makes vector instructions of it.
+// SHA-256 of four events side by side. The word j of lane l stands at l + j * 4 of an array, and the inner loop is over the lanes,
+// four rounds in its body, which the compiler unrolls: it makes vector instructions of that loop.
 ghost use Rattle.std.specs.Prelude.{◌≡◌, ℕ, true, false, ◌+◌, ◌-◌, ◌*◌, ◌%◌, ◌<◌, ◌≤◌, List, length, get_or, set, replicate, IsTrue, ◌↔◌, MatchOption};
 ghost use Rattle.octets.specs.Octets.{all_zero};
 ghost use Rattle.sha256.specs.Constants.{K};
@@ -10,6 +10,7 @@ ghost use Rattle.event_ids.specs.Lanes.{event_at, block_of, padded_block, with_w
 ghost use Rattle.event_ids.specs.Lanes.{EachLane, OtherSchedules, OtherStates, Stepped};
 
 use sha256::State;
+use std::array;
 
 // Four events, one behind another.
 #[derive(Clone, Copy)]
@@ -56,11 +57,9 @@ impl FourConstants {
         requires { k.now ≡ K }
         ensures { FourTimes K result.words }
     {
-        let mut words = [0; 256];
-        for i in 0..256 {
-            words[i] = k[i / 4];
+        FourConstants {
+            words: array::from_fn(|i| k[i / 4]),
         }
-        FourConstants { words }
     }
 
     // The constant of the round t, for lane l.
@@ -73,7 +72,7 @@ impl FourConstants {
 }
 
 // The states of four lanes.
-// Kept, no plainer: a lane is a usize below 4; a type for it would be made anew in each turn of each loop over the lanes.
+// Kept, no plainer: a lane is a usize below 4: with a type for it each loop over the lanes would have to make one and show the same there.
 #[derive(Clone, Copy)]
 pub struct States {
     words: [u32; 32],
@@ -242,10 +241,8 @@ impl Schedules {
     }
 }
 
-// Kept, no plainer: states, words and constants are lent side by side, since rounds write the states alone and read the words of
-// either kind; a struct of all three would be taken apart at each call.
-// Kept, no plainer: rounds that make words have functions of their own, since one source of words for both kinds would have to say
-// in its contract which words it has and up to which round.
+// Kept, no plainer: states, words and constants stay three parameters: words are of two types, lent to write or to read, so two structs.
+// Kept, no plainer: rounds that make words stay apart: a trait over both sources would say in its contract how many words are made by then.
 
 // In lane l, the word t + 16 of the schedule and the round t.
 fn round_and_word(s: State, w: &mut Schedules, k: &FourConstants, t: usize, l: usize) -> State
@@ -263,12 +260,11 @@ fn lane_rounds_and_words(st: &mut States, w: &mut Schedules, k: &FourConstants, 
     ensures other_schedules { OtherSchedules l w.old.words w.new.words }
     ensures other_states { OtherStates l st.old.words st.new.words }
 {
-    let s = st.of_lane(l);
-    let s1 = round_and_word(s, w, k, t, l);
-    let s2 = round_and_word(s1, w, k, t + 1, l);
-    let s3 = round_and_word(s2, w, k, t + 2, l);
-    let s4 = round_and_word(s3, w, k, t + 3, l);
-    st.put(l, s4);
+    let mut s = st.of_lane(l);
+    for j in 0..4 {
+        s = round_and_word(s, w, k, t + j, l);
+    }
+    st.put(l, s);
 }
 
 // In each lane, the words t + 16 to t + 19 and the rounds t to t + 3.
@@ -305,12 +301,11 @@ fn lane_rounds<W: Words>(st: &mut States, w: &W, k: &FourConstants, t: usize, l:
     ensures lane { state_at l st.new.words ≡ rounds_from t 4 (W.of_lane w.now l) (state_at l st.old.words) }
     ensures other_states { OtherStates l st.old.words st.new.words }
 {
-    let s = st.of_lane(l);
-    let r1 = round_at(s, w, k, t, l);
-    let r2 = round_at(r1, w, k, t + 1, l);
-    let r3 = round_at(r2, w, k, t + 2, l);
-    let r4 = round_at(r3, w, k, t + 3, l);
-    st.put(l, r4);
+    let mut r = st.of_lane(l);
+    for j in 0..4 {
+        r = round_at(r, w, k, t + j, l);
+    }
+    st.put(l, r);
 }
 
 // In each lane, the rounds t to t + 3.

@@ -3,3 +3,4 @@ pub mod Tests
 pub mod Sorting
 pub mod Once
 pub mod Counting
+pub mod FromFn

@@ -24,6 +24,7 @@ pub fn area<const N: usize>() -> [u8; N]
 
 // Takes the whole file into a started unit, and writes the text of the events held. The take is not refused: a file with a first event
 // passes check 8, and a start leaves a store that passes check 2.
+#[tactic(auto, unfolding(crate::specs::Page::taken_text))]
 fn write_taken(
     file: &[u8],
     store: &mut [u8],
@@ -44,7 +45,7 @@ fn write_taken(
 }
 
 // Starts a unit with the first event of a file, takes the whole file into it, and writes its text. Each call is lent document 01's cord table.
-#[tactic(auto, using(crate::proofs::Long::long_refused))]
+#[tactic(auto, using(crate::proofs::Long::long_refused, crate::proofs::Started::none_refused, crate::proofs::Started::started_taken))]
 fn write_file(file: &[u8], store: &mut [u8], out: &mut [u8]) -> Result<usize, Refusal>
     ensures { answered (answer_of result) out.new ≡ file_text file.now store.old out.old }
 {
@@ -60,6 +61,7 @@ fn write_file(file: &[u8], store: &mut [u8], out: &mut [u8]) -> Result<usize, Re
 
 // Writes what the program writes for a room.bun of these bytes to the front of the output; answers how many bytes that is.
 // The store is room to work in.
+#[tactic(auto, using(crate::proofs::Started::page_refused))]
 pub fn page(file: &[u8], store: &mut [u8], out: &mut [u8]) -> usize
     requires { 12 ≤ length out.old }
     ensures { take result out.new ≡ page_of file.now store.old out.old }
@@ -91,7 +93,7 @@ pub fn read_full(input: &mut impl Read, buf: &mut [u8]) -> io::Result<usize>
     ensures { ReadsAtMost result buf.new }
 {
     let mut done = 0;
-    // Kept, no plainer: each read says where the next one starts. `read_exact` fails on a shorter file, and `read_to_end` wants a heap.
+    // Kept, project rule: an interrupted read is refused as it was, and std's copy reads again. `read_exact` fails on a shorter file.
     while done < buf.len() {
         let more = input.read(&mut buf[done..])?;
         if more == 0 {

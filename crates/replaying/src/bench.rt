@@ -1,13 +1,12 @@
 // What the calls are lent: the areas that the driver owns, and how much of each. A method runs one operation and writes its line.
 
-use crate::lines::{Answer, Bundled, Digest, Figures, Hex, Links, Where};
+use crate::lines::{Digest, Figures, Hex};
 use crate::script::{Operation, Record, ScriptError, number};
-use event::Refusal;
+use event::{Refusal, Shown};
 use std::fmt::Display;
 use std::io;
 use store::Held;
-use takes::{Placed, Tally};
-use tally::Counted;
+use takes::Tally;
 
 const OUTPUT_BYTES: usize = 65536;
 
@@ -74,22 +73,13 @@ impl Bench {
     ) -> Result<(), ScriptError> {
         let payload = record.payload;
         match record.operation {
-            Operation::Start => {
-                self.write(rt, "start", payload, start, Where)?;
-                println!(rt)?;
-            }
-            Operation::Take => {
-                self.write(rt, "take", payload, tally::take_with, Where)?;
-                println!(rt; " {}", Figures(self.tally))?;
-            }
-            Operation::TakeBundle => {
-                self.write(rt, "bundle", payload, tally::bundle_with, Bundled)?;
-                println!(rt; " {}", Figures(self.tally))?;
-            }
+            Operation::Start => self.start(rt, payload)?,
+            Operation::Take => self.take(rt, payload)?,
+            Operation::TakeBundle => self.take_bundle(rt, payload)?,
             Operation::LookUp => self.look_up(rt, payload)?,
             Operation::Order => self.report(rt, "order", payload, reports::order)?,
             Operation::Verdict => self.verdict(rt, payload)?,
-            Operation::Map => self.report(rt, "map", payload, map)?,
+            Operation::Map => self.report(rt, "map", payload, reports::map)?,
             Operation::WriteOut => self.report(rt, "writeout", payload, reports::write_out)?,
             Operation::PrintRoom => print_room(rt, payload)?,
             Operation::Digest => println!(rt; "digest {}", Digest(payload))?,
@@ -105,27 +95,52 @@ impl Bench {
         Ok(())
     }
 
-    // Lends the areas to a call that writes the store, keeps what the call leaves, and begins its line: the answer as it is to be
-    // shown, the count and the store.
-    fn write<
-        A: Drop,
-        S: Display + Drop,
-        F: FnOnce(&mut [u8], usize, &[u8], &[u8], Tally) -> Counted<A>,
-        G: FnOnce(A) -> S,
-    >(&mut self, rt: &impl Print, name: &str, payload: &[u8], call: F, shown: G) -> io::Result<()>
-        requires call { F.IsAlwaysCallable call }
-        requires shown { G.IsAlwaysCallable shown }
-    {
-        let table = self.table.front();
-        let store = self.store.front_mut();
-        let counted = call(store, self.count, table, payload, self.tally);
-        self.count = counted.taken.count;
-        self.tally = counted.tally;
-        let answer = Answer(counted.taken.answer.map(shown));
-        print!(rt;
-            "{name} {answer} {} {}",
-            self.count,
+    fn start(&mut self, rt: &impl Print, event: &[u8]) -> io::Result<()> {
+        let taken = takes::start(self.store.front_mut(), self.table.front(), event);
+        self.count = taken.count;
+        println!(rt;
+            "start {} {} {}",
+            Shown(taken.answer),
+            taken.count,
             Digest(&self.store.bytes)
+        )
+    }
+
+    fn take(&mut self, rt: &impl Print, event: &[u8]) -> io::Result<()> {
+        let store = self.store.front_mut();
+        let taken = tally::take_counted(
+            store,
+            self.count,
+            self.table.front(),
+            event,
+            &mut self.tally,
+        );
+        self.count = taken.count;
+        println!(rt;
+            "take {} {} {} {}",
+            Shown(taken.answer),
+            taken.count,
+            Digest(&self.store.bytes),
+            self.tally
+        )
+    }
+
+    fn take_bundle(&mut self, rt: &impl Print, bundle: &[u8]) -> io::Result<()> {
+        let store = self.store.front_mut();
+        let taken = tally::take_bundle_counted(
+            store,
+            self.count,
+            self.table.front(),
+            bundle,
+            &mut self.tally,
+        );
+        self.count = taken.count;
+        println!(rt;
+            "bundle {} {} {} {}",
+            Shown(taken.answer.map(Figures)),
+            taken.count,
+            Digest(&self.store.bytes),
+            self.tally
         )
     }
 
@@ -140,8 +155,8 @@ impl Bench {
     }
 
     fn verdict(&self, rt: &impl Print, id: &[u8]) -> io::Result<()> {
-        let answer = reports::verdict(self.held(), id);
-        println!(rt; "verdict {}", Answer(answer))
+        let answer = reports::verdict(self.held(), id).map(u8::from);
+        println!(rt; "verdict {}", Shown(answer))
     }
 
     // Fills as many bytes of output as the payload says, lends them to a call that writes them, and writes its line.
@@ -158,7 +173,7 @@ impl Bench {
         let mut area = [238; OUTPUT_BYTES];
         let out = &mut area[..n];
         let answer = call(self.held(), out);
-        println!(rt; "{name} {} {}", Answer(answer), Digest(out))?;
+        println!(rt; "{name} {} {}", Shown(answer), Digest(out))?;
         Ok(())
     }
 
@@ -181,7 +196,7 @@ impl Bench {
             repeats: octets::number32(payload, 4),
             refused: octets::number32(payload, 8),
         };
-        println!(rt; "tally {}", Figures(self.tally))?;
+        println!(rt; "tally {}", self.tally)?;
         Ok(())
     }
 
@@ -226,15 +241,4 @@ fn print_room(rt: &impl Print, file: &[u8]) -> io::Result<()> {
     let mut out = print_program::area::<8192>();
     let n = print_program::page(file, &mut store, &mut out);
     println!(rt; "print {}", Hex(octets::part(&out, 0, n)))
-}
-
-// A start, as a call that leaves the tally.
-fn start(store: &mut [u8], _: usize, table: &[u8], event: &[u8], tally: Tally) -> Counted<Placed> {
-    let taken = takes::start(store, table, event);
-    Counted { tally, taken }
-}
-
-// The map, with its figures as a line shows them.
-fn map(held: Held<'_, '_>, out: &mut [u8]) -> Result<Links, Refusal> {
-    reports::map(held, out).map(Links)
 }

@@ -1,3 +1,4 @@
 pub mod Reports
 pub mod HeldEntries
 pub mod OpenedBytes
+pub mod Shown

@@ -1,17 +1,11 @@
 -- One turn of each loop of the compression function, as a law of lists.
 -- Assumes nothing.
-use Rattle.std.proofs.Common.{◌≡◌, ℕ, zero, suc, ◌+◌, ◌%◌, ◌<◌, List, [], ◌∷◌, ◌++◌, length, get_or, take, set, ap, ◌∙◌, ap₂, suc-add, zero-add, add-one, arith, length-append, take-suc-set}
+use Rattle.std.proofs.Common.{◌≡◌, ℕ, zero, suc, ◌+◌, ◌-◌, ◌%◌, ◌<◌, ◌≤◌, List, length, get_or, refl, ap, ◌∙◌, suc-add, zero-add, add-one, arith, length-append}
 use lib.ListN.{get_or-append}
-use Rattle.sha256.specs.Sha256.{word_at, words, extended, one_round, rounds}
+use Rattle.sha256.specs.Sha256.{extended, one_round, rounds}
 use Rattle.sha256.specs.Constants.{K}
 use Rattle.sha256.specs.Rolling.{AtHand}
 use Rattle.sha256.specs.declared.State.{State}
-
--- one more word of the block
-pub words_turn : (b w : List ℕ) (i v : ℕ) → i < length w → take i w ≡ words i b → v ≡ word_at b i
-    → take (i + 1) (set w i v) ≡ words (i + 1) b
-unfolding words
-words_turn b w i v h e f = rw add-one (take-suc-set w i v h ∙ ap₂ (λ (x : List ℕ) (y : ℕ). x ++ (y ∷ [])) e f)
 
 -- one more round
 pub round_turn : (w : List ℕ) (z : State) (t u : ℕ) {s r : State} → u ≡ t + 1 → s ≡ rounds t w z
@@ -25,6 +19,18 @@ pub held_turn : (n : ℕ) (x w : List ℕ) (z : State) (t m j u v : ℕ) {s r : 
 held_turn n x w z t m j u v held low eu ev es er =
     let word : get_or w (u % n) 0 ≡ get_or x u 0 = rw eu (held j low) in
     round_turn x z u v (omega arith) es (rw word at er)
+
+-- words at hand are so for later rounds
+pub at_hand_later : (n : ℕ) (x w : List ℕ) (from m t k : ℕ) → from ≤ t → t + k ≤ from + m → AtHand n x from m w → AtHand n x t k w
+at_hand_later n x w from m t k a b held j h =
+    let e : from + (t - from + j) ≡ t + j = omega arith in
+    rw e at (held (t - from + j) (omega arith))
+
+-- a whole schedule is at hand from the first round on
+pub all_rounds : (w : List ℕ) (s r : State)
+    → ((x : List ℕ) (z : State) → AtHand 64 x 0 64 w → s ≡ rounds 0 x z → r ≡ rounds 64 x z) → r ≡ rounds 64 w s
+unfolding rounds
+all_rounds w s r h = h w s (λ j l. let e : (0 + j) % 64 ≡ 0 + j = omega arith in rw e refl) refl
 
 -- ---- the schedule
 

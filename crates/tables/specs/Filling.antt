@@ -12,6 +12,7 @@ use mathlib.Core.List.{
 }
 use Rattle.std.proofs.Math.ListN.{get_or-eq_default}
 use Rattle.lists.specs.Cases.{by_bool}
+use Rattle.lists.proofs.Sorting.{mem_get_d}
 
 -- what holds of 0 and of every entry holds at every index
 pub everywhere : (P : ℕ → Type 0) (T : List ℕ) → P 0 → ((k : ℕ) → k < length T → P (get_or T k 0)) → (k : ℕ) → P (get_or T k 0)
@@ -63,6 +64,10 @@ module _ (f : ℕ → ℕ) (n : ℕ) (table : List ℕ) (i : ℕ) (d : Filling f
 
   pub filling_all : length table ≤ i → Filled f n table
   filling_all h = record { entry = λ k l. d.made.entry k (omega (arith, h, l, d.size)) }
+
+-- a list of numbers below 256 has one at each index
+pub listed_low : (l : List ℕ) (i : ℕ) → ((k : ℕ) → Memᴰ k l → k < 256) → i < length l → get_or l i 0 < 256
+listed_low l i low h = low (get_or l i 0) (mem_get_d l i 0 h)
 
 -- the members up to an index, and one more
 module _ (l : List ℕ) (i : ℕ) (h : i < length l) where

@@ -7,21 +7,22 @@ ghost use Rattle.tables.specs.Bits.{bit_in};
 
 use std::array;
 
-// The entry at an index, 0 past the end.
-pub fn entry(table: &[u16], index: u16) -> u16
-    ensures { result ≡ get_or table.now index 0 }
+// The entry at an index, and past the end what is given for it.
+pub fn entry<T: Copy>(table: &[T], index: u16, past: T) -> T
+    ensures { result ≡ get_or table.now index past }
 {
-    table.get(usize::from(index)).copied().unwrap_or(0)
+    table.get(usize::from(index)).copied().unwrap_or(past)
 }
 
 // The first n entries of a table, or all: lent as an array, it asks its user for no length.
-pub fn front(table: &[u16; 256], n: usize) -> &[u16]
+pub fn front<T>(table: &[T; 256], n: usize) -> &[T]
     ensures { result.now ≡ take n table.now }
 {
     table.get(..n).unwrap_or(table)
 }
 
 // Takes every entry away.
+// Kept, no plainer: `fill(0)` promises this of the entries alone. Here it holds at every index, and no caller proves what stands past the end.
 pub fn clear(table: &mut [u16])
     ensures { (i : ℕ) → get_or table.new i 0 ≡ 0 }
 {
@@ -63,14 +64,15 @@ impl BitRow {
 
     // Sets bit j.
     #[tactic(auto, using(crate::proofs::RowBits::bit_inserted))]
-    pub fn insert(&mut self, j: u16)
-        requires { j < 256 }
+    pub fn insert(&mut self, j: u8)
         ensures { (b : ℕ) → bit_in self.new b ≡ (bit_in self.old b || eqb b j) }
     {
         self.words[usize::from(j / 64)] |= 1 << (j % 64);
     }
 
     // Sets each bit that the other row has.
+    // Kept, no plainer: `meet` differs in the operator alone, but one function over a closure needs a contract on the closure's answers.
+    #[tactic(auto, using(crate::proofs::RowBits::united))]
     pub fn unite(&mut self, other: BitRow)
         ensures { (b : ℕ) → bit_in self.new b ≡ (bit_in self.old b || bit_in other b) }
     {
@@ -78,6 +80,7 @@ impl BitRow {
     }
 
     // Takes away each bit that the other row does not have.
+    #[tactic(auto, using(crate::proofs::RowBits::met))]
     pub fn meet(&mut self, other: BitRow)
         ensures { (b : ℕ) → bit_in self.new b ≡ (bit_in self.old b && bit_in other b) }
     {

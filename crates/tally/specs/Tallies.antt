@@ -30,12 +30,15 @@ pub record Tallied (A : Type 0) : Type 0 where
   pub left : Left A
   pub tally : Tally
 
+-- by what the call leaves without it, and how its answer is counted
+abbrev pub tallied_by : {A : Type 0} → (Bytes → Bytes → ℕ → Bytes → Left A) → (Tally → Answer A → Tally)
+    → Bytes → Bytes → ℕ → Bytes → Tally → Tallied A
+tallied_by left_of count table store n offered t =
+    let left = left_of table store n offered in
+    record { left = left; tally = count t left.answer }
+
 abbrev pub take_tallied : Bytes → Bytes → ℕ → Bytes → Tally → Tallied Placed
-take_tallied table store count e t =
-    let left = take_of table store count e in
-    record { left = left; tally = counted t left.answer }
+take_tallied = tallied_by take_of counted
 
 abbrev pub bundle_tallied : Bytes → Bytes → ℕ → Bytes → Tally → Tallied Tally
-bundle_tallied table store count b t =
-    let left = bundle_of table store count b in
-    record { left = left; tally = tallied t left.answer }
+bundle_tallied = tallied_by bundle_of tallied

@@ -20,7 +20,7 @@ use Rattle.model.proofs.StoreLaws.{held-length}
 use Rattle.model.specs.Output.{overwritten}
 use Rattle.model.specs.Store.{held_in}
 use Rattle.cabling.specs.declared.Ran.{Ran}
-use Rattle.cabling.specs.Ports.{link_in}
+use Rattle.cabling.specs.declared.Ports.{Ports}
 use Rattle.cabling.specs.Rows.{row_bytes, RowsWritten}
 use Rattle.cabling.proofs.Rows.{row-bytes_size, map-bytes}
 use Rattle.text_format.specs.Text.{room_text, text_of as text_of_rows, answer_of, output_of, answer_of_printed}
@@ -39,14 +39,14 @@ use Rattle.text.specs.Text.{text_of}
 held-links_few : (store : Bytes) (n : ℕ) → length (machine (held_view store n)).links ≤ n
 held-links_few store n = omega (arith, links_few (held_in store n), held-length store n)
 
-module _ {store : Bytes} {n : ℕ} {verdicts ports : List ℕ} {w : Ran} (t : LinkedTables store n verdicts ports w) where
+module _ {store : Bytes} {n : ℕ} {verdicts : List ℕ} {ports : Ports} {w : Ran} (t : LinkedTables store n verdicts ports w) where
   abbrev links : List Link
   links = (machine (held_view store n)).links
 
   verdict_each : length (take n verdicts) ≡ n
   verdict_each = length-take-le n verdicts (omega (arith, t.few, t.long))
 
-  module _ {k : ℕ} {rows₀ rows : Bytes} (wrote : RowsWritten (link_in store) ports rows₀ rows k) where
+  module _ {k : ℕ} {rows₀ rows : Bytes} (wrote : RowsWritten ports rows₀ rows k) where
     pub rows_few : k ≤ 256
     rows_few = omega (arith, wrote.count links t.shows.links, held-links_few store n, t.few)
 
@@ -65,7 +65,7 @@ shown : (p : Option ℕ) → answer_of_result (ok_or p ShortOutput) ≡ answer_o
 shown (Some n) = refl
 shown None = refl
 
-module _ {table store : Bytes} {n : ℕ} {verdicts ports : List ℕ} (out : Bytes) where
+module _ {table store : Bytes} {n : ℕ} {verdicts : List ℕ} {ports : Ports} (out : Bytes) where
   pub text-refused : {k : Refusal} → LinkedStore table store n verdicts ports (Err k) → answered (refused (number_of k)) out ≡ text_of table store n out
   unfolding text_of
   text-refused {k} s =
@@ -77,8 +77,8 @@ module _ {table store : Bytes} {n : ℕ} {verdicts ports : List ℕ} (out : Byte
     same bytes {rows} e =
         text_of_store table bytes store n (passed_store table store n s.told).1.passes rows (take n verdicts)
         (e ∙ sym (map-bytes (held_view store n)))
-        (held_entries store n (λ x. verdict (held_view store n) x.ident) 0 (take n verdicts) (verdict_each (s.left w refl))
-        (λ k h. entry_right (s.left w refl).judged refl h))
+        (held_entries store n (λ x. verdict (held_view store n) x.ident) 0 (take n verdicts) (verdict_each s.left)
+        (λ k h. entry_right s.left.judged refl h))
 
     -- 10 decides
     whole : answered (answer_of (room_text (held_view store n)) out) (output_of (room_text (held_view store n)) out) ≡ text_of table store n out
@@ -89,15 +89,16 @@ module _ {table store : Bytes} {n : ℕ} {verdicts ports : List ℕ} (out : Byte
         (λ t. rw (good.0, good.1.lent, good.1.passes, t) refl)
         (λ f. rw (good.0, good.1.lent, good.1.passes, f) refl)
 
-    -- p was printed of the k rows written
+    -- p was printed of the k rows written, and of the numbers of the verdicts
     pub text_told : Octets table
-        → {k : ℕ} {rows₀ rows : Bytes} → RowsWritten (link_in store) ports rows₀ rows k → length rows₀ ≡ 2048
+        → {k : ℕ} {rows₀ rows : Bytes} → RowsWritten ports rows₀ rows k → length rows₀ ≡ 2048 → {numbers : List ℕ} → numbers ≡ take n verdicts
         → (p : Option ℕ) {left : Bytes}
-        → (answer_of_printed p ≡ answer_of (text_of_rows (take (k * 8) rows) (take n verdicts)) out)
-        × (left ≡ output_of (text_of_rows (take (k * 8) rows) (take n verdicts)) out)
+        → (answer_of_printed p ≡ answer_of (text_of_rows (take (k * 8) rows) numbers) out)
+        × (left ≡ output_of (text_of_rows (take (k * 8) rows) numbers) out)
         → answered (answer_of_result (ok_or p ShortOutput)) left ≡ text_of table store n out
-    text_told bytes wrote size p printed =
-        let here = same bytes (rows_front (s.left w refl) wrote size) in
+    text_told bytes {k} {rows₀} {rows} wrote size numbered p printed =
+        let here =
+        ap (text_of_rows (take (k * 8) rows)) numbered ∙ same bytes (rows_front s.left wrote size) in
         let answer = shown p ∙ printed.0 ∙ ap (λ (b : Bytes). answer_of b out) here in
         let now = printed.1 ∙ ap (λ (b : Bytes). output_of b out) here in
         (λ i. answered (answer i) (now i)) ∙ whole

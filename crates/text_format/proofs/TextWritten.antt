@@ -1,16 +1,15 @@
 -- The text written piece by piece: numbers, one piece behind another, lines, counts, and the whole.
-use Prim.Native.Nat.{ℕ, zero, suc, ◌+◌, ◌*◌, ◌-◌, ◌/◌, ◌%◌, ◌≤◌, ◌<◌}
+use Prim.Native.Nat.{ℕ, ◌+◌, ◌*◌, ◌/◌, ◌≤◌, ◌<◌}
 use native.Mathlib.Omega.{arith}
-use native.Mathlib.Numerals.{add-one}
 use mathlib.Core.Path.{◌≡◌, refl, sym, ap, ◌∙◌}
-use mathlib.Core.List.{List, [], ◌∷◌, ◌++◌, map, map-append, flatten, append_assoc, append-nil}
-use lib.Dec.{eqb, ltb}
-use lib.ListN.{length, get_or, set, replicate, length-replicate, take, drop, length-append, length-map, length-take, length-drop, take-append-drop, drop_of_length-le}
+use mathlib.Core.List.{List, [], ◌∷◌, ◌++◌, map, map-append, flatten, append_assoc}
+use lib.Dec.{eqb}
+use lib.ListN.{length, take, drop, length-append, length-map, length-drop, take-append-drop}
 use lib.Seq.{length-take-le, take_at, drop_at}
 use Rattle.std.specs.List.{count_by}
-use Rattle.std.proofs.lemmas.List.{drop-set, drop-drop}
+use Rattle.std.proofs.lemmas.List.{drop-drop}
 use Rattle.std.proofs.lemmas.List.Recursion.{is_count_by}
-use borrow.Author.Tests.{ltb-true, ltb-false, le-leb, lt-leb}
+use borrow.Author.Tests.{le-leb, lt-leb}
 use Rattle.lists.specs.Cases.{by_bool}
 use Rattle.lists.specs.Bytes.{Bytes}
 use Rattle.lists.specs.Tests.{keep}
@@ -19,93 +18,21 @@ use Rattle.octets.specs.Octets.{byte_at, be16, part, pasted}
 use Rattle.event.specs.Contents.{cord_at}
 use Rattle.event.specs.Answers.{value, refused}
 use Rattle.model.specs.Output.{overwritten, overwritten_none, overwritten_front, overwritten_more}
-use Rattle.text_format.specs.Text.{
-  last_digit,
-  decimal,
-  digits,
-  field,
-  row_line,
-  how_many,
-  row_cord,
-  rows_in,
-  text_of,
-  answer_of,
-  output_of,
-}
-use Rattle.text_format.specs.Steps.{leading_zeros, head_of}
-use Rattle.text_format.specs.TextLaws.{decimal_one, decimal_step}
+use Rattle.text_format.specs.Text.{decimal, digits, field, row_line, how_many, row_cord, rows_in, text_of, answer_of, output_of}
+use Rattle.text_format.specs.Steps.{head_of}
 use Rattle.text_format.specs.Sizes.{field_most, line-length, lines-length, text_parts, text-length}
-
--- ── numbers ──────────────────────────────────────────────────────────────────────────────────────────────────────────────────
-
-last : (n : ℕ) → n < 10 → decimal n ≡ last_digit n ∷ []
-last n h = let e : n % 10 ≡ n = omega arith in decimal_one n h ∙ rw e
-
--- the digits from the last one on, of text that has room for them
-pub digits_start : (k n : ℕ) → digits k n ++ drop k (replicate {A = ℕ} k 48) ≡ digits k n
-digits_start k n = rw (drop_of_length-le (replicate {A = ℕ} k 48) {i = k} (simp length-replicate (omega arith))) (append-nil (digits k n))
-
-pub digits_turn : (i n v : ℕ) (t : Bytes) → 0 < i → i ≤ length t → v ≡ last_digit n
-    → digits (i - 1) (n / 10) ++ drop (i - 1) (set t (i - 1) v) ≡ digits i n ++ drop i t
-unfolding digits
-digits_turn zero n v t h l e = absurd (omega arith)
-digits_turn (suc j) n v t h l e =
-    let one : suc j - 1 ≡ j = omega arith in
-    let lt : j < length t = omega arith in
-    rw (one, drop-set t j v lt, e, add-one) (sym (append_assoc (digits j (n / 10)) (last_digit n ∷ []) (drop (suc j) t)))
-
-pub digits_end : (i n : ℕ) (t : Bytes) → i ≡ 0 → t ≡ digits i n ++ drop i t
-unfolding digits
-digits_end i n t e = rw e
-
--- of five digits those behind the zeros in front are the number
-behind_zeros : (n : ℕ) → n < 65536 → take 5 (drop (leading_zeros n) (digits 5 n)) ≡ decimal n
-unfolding leading_zeros digits
-behind_zeros n h =
-    by_bool (ltb n 10) (λ t. rw (t, last n (ltb-true n 10 t)))
-    (λ f. let a = ltb-false n 10 f in rw (f, decimal_step n a)
-    (by_bool (ltb n 100) (λ t. let l = ltb-true n 100 t in rw (t, last (n / 10) (omega arith)))
-    (λ g. let b = ltb-false n 100 g in rw (g, decimal_step (n / 10) (omega arith))
-    (by_bool (ltb n 1000) (λ t. let l = ltb-true n 1000 t in rw (t, last (n / 10 / 10) (omega arith)))
-    (λ p. let c = ltb-false n 1000 p in rw (p, decimal_step (n / 10 / 10) (omega arith))
-    (by_bool (ltb n 10000) (λ t. let l = ltb-true n 10000 t in rw (t, last (n / 10 / 10 / 10) (omega arith)))
-    (λ q. let d = ltb-false n 10000 q in
-    rw (q, decimal_step (n / 10 / 10 / 10) (omega arith), last (n / 10 / 10 / 10 / 10) (omega arith)))))))))
-
-decimal-length : (n : ℕ) → n < 65536 → length (decimal n) ≡ 5 - leading_zeros n
-unfolding digits
-decimal-length n h =
-    let five = digits-length n in
-    ap length (sym (behind_zeros n h)) ∙ simp (length-take, length-drop) (omega arith)
-  where
-    digits-length : (n : ℕ) → length (digits 5 n) ≡ 5
-    digits-length n = refl
-
-pub number_written : (o d five : Bytes) (at n zeros : ℕ) → n < 65536 → five ≡ digits 5 n → zeros ≡ leading_zeros n
-    → d ≡ pasted o at (take 5 (drop zeros five)) → (d ≡ pasted o at (decimal n)) × (at + (5 - zeros) ≡ at + length (decimal n))
-number_written o d five at n zeros h p q r = (
-  r ∙ rw (p, q, behind_zeros n h),
-  ap (λ (k : ℕ). at + k) (ap (λ (z : ℕ). 5 - z) q ∙ sym (decimal-length n h)),
-)
 
 -- ── pieces written one behind another ────────────────────────────────────────────────────────────────────────────────────────
 
--- d is the output o with the text r at its front, which ends at an offset
-pub record Written (r o d : Bytes) (at : ℕ) : Type 0 where
-  pub text : d ≡ overwritten r o
-  pub size : at ≡ length r
+-- an output with the text r at its front, and x behind it
+pub behind : (r x o : Bytes) (at : ℕ) → at ≡ length r → at + length x ≤ length o → pasted (overwritten r o) at x ≡ overwritten (r ++ x) o
+behind r x o at e h = rw e (overwritten_more r x o (omega (arith, e)))
 
-pub written_start : (o : Bytes) → Written [] o o 0
-written_start o = record { text = overwritten_none o; size = refl }
+pub at_front : (o x : Bytes) → length x ≤ length o → pasted o 0 x ≡ overwritten x o
+at_front o x h = ap (λ (d : Bytes). pasted d 0 x) (overwritten_none o) ∙ behind [] x o 0 refl (omega arith)
 
-pub written_more : {r o d e : Bytes} {at : ℕ} (x : Bytes) (end : ℕ) → Written r o d at → e ≡ pasted d at x → end ≡ at + length x
-    → end ≤ length o → Written (r ++ x) o e end
-written_more {r} {o} {d} {e} {at} x end w q s h =
-    let l = length-append r x in
-    record {
-      text = q ∙ rw (w.text, w.size) (overwritten_more r x o (omega (arith, w.size)));
-      size = omega (arith, w.size);
-    }
+pub two_pieces : (o x y : Bytes) (at : ℕ) → at ≡ length x → at + length y ≤ length o → pasted (pasted o 0 x) at y ≡ overwritten (x ++ y) o
+two_pieces o x y at e h = ap (λ (d : Bytes). pasted d at y) (at_front o x (omega (arith, e))) ∙ behind x y o at e h
 
 -- the same behind any offset
 over : (o x : Bytes) (at : ℕ) → at + length x ≤ length o → pasted o at x ≡ overwritten (take at o ++ x) o
@@ -129,12 +56,10 @@ pasted_behind o x y at k e h =
     ∙ ap (λ (b : Bytes). overwritten b o) (append_assoc (take at o) x y)
     ∙ sym (over o (x ++ y) at (omega arith))
 
-pub field_behind : (o d e word : Bytes) (at k n : ℕ) → d ≡ pasted o at word → k ≡ at + length word
-    → at + length (field word n) ≤ length o → e ≡ pasted d k (decimal n) → e ≡ pasted o at (field word n)
+pub field_behind : (o word : Bytes) (at n : ℕ) → at + length (field word n) ≤ length o
+    → pasted (pasted o at word) (at + length word) (decimal n) ≡ pasted o at (field word n)
 unfolding field
-field_behind o d e word at k n p q h r =
-    r ∙ ap (λ (b : Bytes). pasted b k (decimal n)) p
-    ∙ pasted_behind o word (decimal n) at k q (omega (arith, length-append word (decimal n)))
+field_behind o word at n h = pasted_behind o word (decimal n) at (at + length word) refl (omega (arith, length-append word (decimal n)))
 
 pub field_length : (word : Bytes) (n : ℕ) → length (field word n) ≡ length word + length (decimal n)
 unfolding field
@@ -210,29 +135,31 @@ lines_end rows i e = rw e
 
 -- ── a line from its parts ────────────────────────────────────────────────────────────────────────────────────────────────────
 
-unfoldable pub assembled : Bytes → Bytes → Bytes → Bytes → Bytes → Bytes
-assembled a b j k m =
-    get_or a 0 0 ∷ get_or a 1 0 ∷ get_or a 2 0 ∷ get_or a 3 0 ∷ 32 ∷ get_or b 0 0 ∷ get_or b 1 0 ∷ get_or b 2 0 ∷ get_or b 3 0 ∷ 32
-    ∷ get_or j 0 0 ∷ get_or j 1 0 ∷ 32 ∷ get_or k 0 0 ∷ get_or k 1 0 ∷ 32
-    ∷ get_or m 0 0 ∷ get_or m 1 0 ∷ get_or m 2 0 ∷ get_or m 3 0 ∷ get_or m 4 0 ∷ 10 ∷ []
+-- "0000 0000 00 00 00000" and a line feed
+abbrev pub blank : Bytes
+blank = 48 ∷ 48 ∷ 48 ∷ 48 ∷ 32 ∷ 48 ∷ 48 ∷ 48 ∷ 48 ∷ 32 ∷ 48 ∷ 48 ∷ 32 ∷ 48 ∷ 48 ∷ 32 ∷ 48 ∷ 48 ∷ 48 ∷ 48 ∷ 48 ∷ 10 ∷ []
 
-assembled-line : (a b j k m : ℕ)
-    → assembled (digits 4 a) (digits 4 b) (digits 2 j) (digits 2 k) (digits 5 m) ≡ row_line (cord_at a b j k m)
-unfolding assembled row_line digits
-assembled-line a b j k m = refl
+-- five numbers filled into a line of zeros
+line_at : (a b j k m : ℕ)
+    → pasted (pasted (pasted (pasted (pasted blank 0 (digits 4 a)) 5 (digits 4 b)) 10 (digits 2 j)) 13 (digits 2 k)) 16 (digits 5 m)
+    ≡ row_line (cord_at a b j k m)
+unfolding row_line digits pasted
+line_at a b j k m = refl
 
-pub line_of : (x a b j k m : Bytes) → a ≡ digits 4 (be16 x 0) → b ≡ digits 4 (be16 x 2)
-    → j ≡ digits 2 (byte_at x 4) → k ≡ digits 2 (byte_at x 5) → m ≡ digits 5 (be16 x 6) → assembled a b j k m ≡ row_line (row_cord x)
+pub line_of : (x : Bytes)
+    → pasted (pasted (pasted (pasted (pasted blank 0 (digits 4 (be16 x 0))) 5 (digits 4 (be16 x 2))) 10 (digits 2 (byte_at x 4))) 13 (digits 2 (byte_at x 5))) 16 (digits 5 (be16 x 6))
+    ≡ row_line (row_cord x)
 unfolding row_cord
-line_of x a b j k m p q r s t = rw (p, q, r, s, t) (assembled-line (be16 x 0) (be16 x 2) (byte_at x 4) (byte_at x 5) (be16 x 6))
+line_of x = line_at (be16 x 0) (be16 x 2) (byte_at x 4) (byte_at x 5) (be16 x 6)
 
 -- ── counts ───────────────────────────────────────────────────────────────────────────────────────────────────────────────────
 
-pub how_many_by : (k : ℕ) (l : List ℕ) → count_by (λ x. eqb x k) l ≡ how_many k l
-unfolding how_many
-how_many_by k l =
-    sym (is_count_by (λ (xs : List ℕ). length (keep (λ x. eqb x k) xs)) (λ x. eqb x k) refl
-    (λ x xs. by_bool (eqb x k) (λ t. rw t (omega arith)) (λ f. rw f)) l)
+module _ {A : Type 0} (f : A → ℕ) where
+  pub how_many_by : (k : ℕ) (l : List A) → count_by (λ x. eqb (f x) k) l ≡ how_many k (map f l)
+  unfolding how_many
+  how_many_by k l =
+      sym (is_count_by (λ (xs : List A). length (keep (λ x. eqb x k) (map f xs))) (λ x. eqb (f x) k) refl
+      (λ x xs. by_bool (eqb (f x) k) (λ t. rw t (omega arith)) (λ e. rw e)) l)
 
 -- ── the text ─────────────────────────────────────────────────────────────────────────────────────────────────────────────────
 
@@ -251,15 +178,13 @@ module _ (rows : Bytes) (verdicts : List ℕ) (o : Bytes) (at : ℕ) (size : at 
       → (value (at + length rows / 8 * 22) ≡ answer_of (text_of rows verdicts) o) × (e ≡ output_of (text_of rows verdicts) o)
   unfolding answer_of output_of
   text_written b head d e room qh qd qe =
-      let n = length rows / 8 in
-      let h = head_of n verdicts in
+      let h = head_of (length rows / 8) verdicts in
       let ls = flatten (map row_line (rows_in rows)) in
-      let fits = le-leb (length (text_of rows verdicts)) (length o) (omega (arith, text-length rows verdicts)) in
-      let all = text_parts rows verdicts in
-      let sum = ap length all ∙ length-append h ls in
-      let begun = qd ∙ ap (pasted o 0) (overwritten_front h b head at size qh) in
-      let first = written_more h at (written_start o) begun (omega arith) (omega arith) in
-      let whole = written_more ls (at + n * 22) first qe (omega (arith, text-length rows verdicts)) room in (
-        rw fits (ap value (omega (arith, text-length rows verdicts))),
-        rw fits (whole.text ∙ ap (λ (x : Bytes). overwritten x o) (sym all)),
+      let long = text-length rows verdicts in
+      let fits = le-leb (length (text_of rows verdicts)) (length o) (omega arith) in
+      let first = qd ∙ ap (pasted o 0) (overwritten_front h b head at size qh) ∙ at_front o h (omega arith) in
+      let behind_first : length h + length ls ≤ length o = omega (arith, ap length (text_parts rows verdicts), length-append h ls) in
+      let both = qe ∙ ap (λ (x : Bytes). pasted x at ls) first ∙ behind h ls o at size (omega (arith, behind_first)) in (
+        rw fits (ap value (omega arith)),
+        rw fits (both ∙ ap (λ (x : Bytes). overwritten x o) (sym (text_parts rows verdicts))),
       )

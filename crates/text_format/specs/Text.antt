@@ -23,7 +23,7 @@ unfoldable pub decimal_in : ℕ → ℕ → Bytes
 decimal_in zero n = []
 decimal_in (suc f) n = cond (ltb n 10) (last_digit n ∷ []) (decimal_in f (n / 10) ++ (last_digit n ∷ []))
 
--- n has fewer than n + 1 digits, or is 0: all of them (TextLaws.decimal-one and decimal-more say so without the bound)
+-- n has fewer than n + 1 digits, or is 0: all of them (TextLaws.decimal_one and decimal_more say so without the bound)
 unfoldable pub decimal : ℕ → Bytes
 decimal n = decimal_in (suc n) n
 

@@ -11,3 +11,4 @@ pub use store::{Held, look_up};
 pub use takes::{Placed, Taken, Tally, start, take, take_bundle};
 pub use tally::{take_bundle_counted, take_counted};
 pub use text::text;
+pub use verdicts::Verdict;

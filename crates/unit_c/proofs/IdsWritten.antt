@@ -1,4 +1,4 @@
--- The cord table and the ids of events, written to the front of an output.
+-- Bytes and ids of events, written to the front of an output.
 use Prim.Native.Nat.{ℕ, ◌*◌, ◌/◌, ◌≤◌}
 use native.Mathlib.Omega.{arith}
 use mathlib.Core.Path.{◌≡◌, refl, sym, ap, ap₂, ◌∙◌}
@@ -16,27 +16,22 @@ use Rattle.octets.specs.Octets.{pasted}
 use Rattle.sha256.specs.Sha256.{sha256, sha256-length}
 use Rattle.cords.specs.DocumentTable.{document_table}
 use Rattle.model.specs.Output.{overwritten, overwritten_more}
-use Rattle.event.specs.Answers.{must, first_failed}
-use Rattle.unit_c.specs.Numbers.{Shown, show_output, document_of, id_tests, id_of, ids_of}
+use Rattle.event.specs.Answers.{Answer, value, shown_number, must, first_failed}
+use Rattle.reports.specs.Reports.{report}
+use Rattle.unit_c.specs.Numbers.{show_output, written, ids_of}
 
--- an output that holds what was to be written
-written : {o bytes : Bytes} → o ≡ bytes → ◌≡◌ {A = Shown} (record { number = 0; buffer = bytes; behind = [] }) (record { number = 0; buffer = o; behind = [] })
-written e = rw e refl
+-- bytes pasted at the front, where they fit
+pub written_front : (bytes out o : Bytes) → length bytes ≤ length out → o ≡ pasted out 0 bytes → record { answer = value tt; out = o } ≡ written bytes out
+unfolding overwritten
+written_front bytes out o room p =
+    rw le-leb (rw p (ap (λ (x : Bytes). record { answer = value tt; out = x }) (overwritten_more [] bytes out (omega arith))))
 
--- what was pasted at the front is what the definition writes
-pub table-written : (out table o : Bytes) → 512 ≤ length out → length table ≡ 512 → table ≡ document_table → o ≡ pasted out 0 table
-    → show_output (document_of out) ≡ record { number = 0; buffer = o; behind = [] }
-unfolding document_of overwritten
-table-written out table o room size e p =
-    rw (le-leb 512 (length out) room, ← e) (written (p ∙ overwritten_more [] table out (omega arith)))
-
-pub id_written : (event out digest o : Bytes) → length event ≡ 192 → 32 ≤ length out → length digest ≡ 32
-    → digest ≡ sha256 event → o ≡ pasted out 0 digest → show_output (id_of event out) ≡ record { number = 0; buffer = o; behind = [] }
-unfolding id_of overwritten
-id_written event out digest o long room size e p =
-    let passes : first_failed (id_tests event out) ≡ none =
-    ap₂ (λ (a b : Bool). first_failed (must 1 a ∷ must 10 b ∷ [])) (eq-eqb (length event) 192 long) (le-leb 32 (length out) room) in
-    rw (passes, ← e) (written (p ∙ overwritten_more [] digest out (omega arith)))
+-- what a call shows that writes bytes of w elements to the front
+pub shown_front : (bytes b out o : Bytes) (a : Answer Unit) (w n : ℕ) → length bytes ≡ w → bytes ≡ b
+    → record { answer = a; out = o } ≡ written bytes out → n ≡ shown_number a
+    → show_output (report (first_failed (must 10 (leb w (length out)) ∷ [])) tt b out) ≡ record { number = n; buffer = o; behind = [] }
+shown_front bytes b out o a w n long e p q =
+    rw (q, ← long, ← e) (ap show_output (sym p))
 
 -- a table of ids at the front of the output is what the definition writes
 module _ (events out : Bytes) where
@@ -64,4 +59,4 @@ module _ (events out : Bytes) where
       ∙ take_at (flatten made) (drop (length (flatten made)) out) (n * 32) long in
       let all : o ≡ flatten made ++ drop (length (flatten made)) out =
       sym (take-append-drop (n * 32) o) ∙ ap₂ (λ (x y : Bytes). x ++ y) front (rest ∙ ap (λ (k : ℕ). drop k out) (sym long)) in
-      rw (whole, le-leb (n * 32) (length out) room) (written all)
+      rw (whole, le-leb (n * 32) (length out) room, all)

@@ -13,7 +13,7 @@ use Rattle.takes.specs.Takes.{Left}
 use Rattle.takes.specs.Numbers.{placed_number, figure_list}
 use Rattle.tally.specs.Tallies.{Tallied}
 use Rattle.reports.specs.declared.MapFigures.{MapFigures}
-use Rattle.reports.specs.Reports.{Report, report}
+use Rattle.reports.specs.Reports.{output_tests, Report, report}
 
 -- the version 2.0.0 as one number: 10,000 × major + 100 × minor + patch
 abbrev pub version : ℕ
@@ -73,6 +73,10 @@ abbrev pub show_tallied : {A : Type 0} → (Left A → Shown) → Tallied A → 
 show_tallied show t =
     let s = show t.left in
     record { number = s.number; buffer = s.buffer; behind = s.behind ++ figure_list t.tally }
+
+-- bytes at the front of an output: 10, "output too short"
+abbrev pub written : Bytes → Bytes → Report Unit
+written bytes out = report (first_failed (output_tests bytes out)) tt bytes out
 
 -- document 01's cord table: 10, "output too short"
 unfoldable pub document_of : Bytes → Report Unit

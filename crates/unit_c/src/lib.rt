@@ -3,7 +3,7 @@
 // refusal's number of document 01; what it answers besides goes to numbers behind pointers, which a refusal leaves as they were, but for the count of
 // a refused start, which is 0. Each makes one call of `unit`, or of the crate below it that answers by value, and shows the answer;
 // `include/pelchunda.h` declares them.
-// Kept, for C: a refusal is a number, what is answered goes behind pointers, and store, count and table come apart.
+// Kept, for C: it has no Result and no slices, so a refusal is a number, answers go behind pointers, and store, count and table come apart.
 
 #![tactic(auto)]
 
@@ -30,6 +30,7 @@ ghost use Rattle.unit_c.specs.Numbers.{
   id_of,
   ids_of,
   version,
+  written,
 };
 
 use event::{EVENT_BYTES, ID_BYTES};
@@ -47,13 +48,10 @@ pub extern "C" fn pelchunda_version() -> u32
 }
 
 // The number that a refusal shows; 0 for an answer.
-fn number<A>(answer: &Result<A, Refusal>) -> u8
-    ensures { result ≡ shown_number (answer_of answer.now) }
+fn number<A: Copy>(answer: Result<A, Refusal>) -> u8
+    ensures { result ≡ shown_number (answer_of answer) }
 {
-    match answer {
-        Ok(_) => 0,
-        Err(refusal) => u8::from(*refusal),
-    }
+    answer.err().map_or(0, u8::from)
 }
 
 // An answer: 0 and its value, or the refusal's number, which leaves what stood there.
@@ -64,7 +62,19 @@ fn show<A: Copy>(answer: Result<A, Refusal>, value: &mut A) -> u8
     if let Ok(found) = &answer {
         *value = *found;
     }
-    number(&answer)
+    number(answer)
+}
+
+// Writes bytes to the front of an output, where they fit.
+#[tactic(auto, using(crate::proofs::IdsWritten::written_front))]
+fn write(out: &mut [u8], bytes: &[u8]) -> Result<(), Refusal>
+    ensures { record { answer = answer_of result; out = out.new } ≡ written bytes.now out.old }
+{
+    if out.len() < bytes.len() {
+        return Err(Refusal::ShortOutput);
+    }
+    octets::paste(out, 0, bytes);
+    Ok(())
 }
 
 // Writes document 01's cord table, 512 bytes, to the front of the output.
@@ -72,12 +82,7 @@ fn show<A: Copy>(answer: Result<A, Refusal>, value: &mut A) -> u8
 pub extern "C" fn pelchunda_document_table(out: &mut [u8]) -> u8
     ensures { show_output (document_of out.old) ≡ record { number = result; buffer = out.new; behind = [] } }
 {
-    if out.len() < cords::TABLE_BYTES {
-        return u8::from(Refusal::ShortOutput);
-    }
-    let table = unit::document_table();
-    octets::paste(out, 0, &table);
-    0
+    number(write(out, &unit::document_table()))
 }
 
 // Starts a unit with a create event; the count is then 1, and 0 after a refusal.
@@ -93,7 +98,7 @@ pub extern "C" fn pelchunda_start(
 {
     let started = unit::start(store, table, event);
     *count = started.count;
-    number(&started.answer)
+    number(started.answer)
 }
 
 // Takes one event: `repeat` is 0 where it was stored, 1 where its id is held already.
@@ -217,7 +222,7 @@ pub extern "C" fn pelchunda_map(
         *ended = figures.ended;
         *joins = figures.joins;
     }
-    number(&answer)
+    number(answer)
 }
 
 // Writes all held events to the output as a bundle; `bytes` is its length.
@@ -297,7 +302,7 @@ pub extern "C" fn pelchunda_verdict(
         count,
         table,
     };
-    show(unit::verdict(held, id), verdict)
+    show(unit::verdict(held, id).map(u8::from), verdict)
 }
 
 // Where the first event of a bundle starts: its 192 bytes are at that offset.
@@ -310,6 +315,7 @@ pub extern "C" fn pelchunda_first_event(bundle: &[u8], offset: &mut usize) -> u8
 }
 
 // Writes the id of an event to the front of `id`: the SHA-256 of its 192 bytes.
+#[tactic(auto, unfolding(crate::specs::Numbers::id_of))]
 #[unsafe(no_mangle)]
 pub extern "C" fn pelchunda_id(event: &[u8], id: &mut [u8]) -> u8
     ensures { show_output (id_of event.now id.old) ≡ record { number = result; buffer = id.new; behind = [] } }
@@ -317,15 +323,11 @@ pub extern "C" fn pelchunda_id(event: &[u8], id: &mut [u8]) -> u8
     if event.len() != EVENT_BYTES {
         return u8::from(Refusal::WrongLength);
     }
-    if id.len() < ID_BYTES {
-        return u8::from(Refusal::ShortOutput);
-    }
-    let digest = sha256::event_id(event);
-    octets::paste(id, 0, &digest);
-    0
+    number(write(id, &sha256::event_id(event)))
 }
 
 // Writes the ids of at most 256 events, each of 192 bytes, to the front of `ids`: side by side, so in less time than one by one.
+#[tactic(auto, unfolding(crate::specs::Numbers::ids_of))]
 #[unsafe(no_mangle)]
 pub extern "C" fn pelchunda_ids(events: &[u8], ids: &mut [u8]) -> u8
     ensures { show_output (ids_of events.now ids.old) ≡ record { number = result; buffer = ids.new; behind = [] } }

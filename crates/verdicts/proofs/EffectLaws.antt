@@ -13,7 +13,7 @@ use mathlib.Core.List.{
   Memᴰ,
 }
 use lib.Dec.{eqb, ltb}
-use lib.ListN.{get_or, take}
+use lib.ListN.{get_or}
 use borrow.Author.Tests.{eqb-true, eqb-false, eq-eqb, ne_eqb, ltb-true, lt-ltb}
 use Rattle.lists.specs.Cases.{by_bool, clash, bool_eq, and→, and←, or→, or←l, or←r}
 use Rattle.lists.specs.Bytes.{Bytes}
@@ -45,6 +45,8 @@ use Rattle.authority.specs.PlaceLaws.{Tables, few, found, level_is, level_of_lem
 use Rattle.verdicts.specs.Effects.{Within, Graded, Struck, Effects}
 use Rattle.tables.specs.declared.BitRow.{BitRow}
 use Rattle.tables.specs.Filling.{Filled}
+use Rattle.verdicts.specs.declared.Verdict.TheVariants.{Unsound, Void, Effective}
+use Rattle.verdicts.specs.Numbers.{verdict_number}
 use Rattle.verdicts.specs.Verdicts.{rank_of, verdict_of}
 
 -- place t is on the line of place k
@@ -212,13 +214,15 @@ module _ {store : Bytes} {n : ℕ} {ids : Bytes} {index P T : List ℕ} {M : Lis
   -- ── the list by rank ────────────────────────────────────────────────────────────────────────────────────────────────
 
   -- l are the settled places
-  module _ (R l : List ℕ) (ranks : Filled (rank_of T Q S) n R) (settled-places : l ≡ ranked T (take n index) 256) where
+  module _ (R l : List ℕ) (ranks : Filled (rank_of T Q S) n R) (settled-places : l ≡ ranked T index 256) where
     abbrev by_rank : List ℕ
     by_rank = ranked R l 256
 
     rank_is : (k : ℕ) → Later k → get_or R k 0 ≡ get_or T (get_or Q k 0) 0
     unfolding rank_of
-    rank_is k a = ranks.entry k a.low ∙ rw (ne_eqb k 0 a.not_first, auth.sound_is k a.low, a.is_sound)
+    rank_is k a =
+        let held = lt-ltb (get_or Q k 0) 256 (omega (arith, (presented_of_lem k a).low, few tables)) in
+        ranks.entry k a.low ∙ rw (ne_eqb k 0 a.not_first, auth.sound_is k a.low, a.is_sound, held)
 
     -- exactly the sound places other than the creator's
     in_list : (k : ℕ) → Later k → Memᴰ k by_rank
@@ -275,7 +279,7 @@ module _ {store : Bytes} {n : ℕ} {ids : Bytes} {index P T : List ℕ} {M : Lis
     module _ (E : List Bool) (law : Effects (on_line store n) G M by_rank E) where
       -- the test of an id, by its place
       abbrev by_table : Id → Bool
-      by_table i = get_or E (place_by n ids index i) false
+      by_table i = get_or E (place_by ids index i) false
 
       by_table-at : (k : ℕ) → k < n → by_table (id_of store k) ≡ get_or E k false
       unfolding event_of
@@ -345,7 +349,7 @@ module _ {store : Bytes} {n : ℕ} {ids : Bytes} {index P T : List ℕ} {M : Lis
       -- the test is the sentence's
       only-sound : (i : Id) → by_table i ≡ true → sound seen i ≡ true
       only-sound i y =
-          by_slot (slot_in ids 0 (take n index) i)
+          by_slot (slot_in ids 0 index i)
           (λ p s.
           let w = slot_place tables.levelled.loaded i p s in
           ap (sound seen) (sym w.1)
@@ -392,16 +396,16 @@ module _ {store : Bytes} {n : ℕ} {ids : Bytes} {index P T : List ℕ} {M : Lis
       effect_at k h = sym (by_table-at k h) ∙ effective_unique held tables.levelled.loaded.distinct by_table by_table_lem (id_of store k)
 
       -- and the verdicts from it are the model's
-      pub verdict-at : (Z : List ℕ) → Filled (verdict_of T S E) n Z → (k : ℕ) → k < n → get_or Z k 0 ≡ verdict seen (id_of store k)
+      pub verdict-at : (Z : List ℕ) → Filled (λ k. verdict_number (verdict_of T S E k)) n Z → (k : ℕ) → k < n → get_or Z k 0 ≡ verdict seen (id_of store k)
       unfolding verdict_of verdict void
       verdict-at Z table k h = table.entry k h ∙ go (get_or T k 0) refl
         where
-          turn : (s e : Bool) → ◌≡◌ {A = ℕ} (cond s (cond e 3 2) 1) (cond s (cond (s && not e) 2 3) 1)
+          turn : (s e : Bool) → verdict_number (cond s (cond e Effective Void) Unsound) ≡ cond s (cond (s && not e) 2 3) 1
           turn true true = refl
           turn true false = refl
           turn false e = refl
 
-          go : (t : ℕ) → get_or T k 0 ≡ t → verdict_of T S E k ≡ verdict seen (id_of store k)
+          go : (t : ℕ) → get_or T k 0 ≡ t → verdict_number (verdict_of T S E k) ≡ verdict seen (id_of store k)
           go zero e = rw (sym (level_is tables k h), e)
           go (suc t) e =
               rw (sym (level_is tables k h), e, ne_eqb (suc t) 0 (λ q. omega arith), auth.sound_is k h, effect_at k h)

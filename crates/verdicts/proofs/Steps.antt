@@ -4,9 +4,9 @@ use native.Mathlib.Omega.{arith}
 use mathlib.Core.Path.{◌≡◌, sym, ap, ◌∙◌, subst}
 use mathlib.Core.Bool.{Bool, false}
 use mathlib.Core.List.{List, [], ◌∷◌, ◌++◌, Memᴰ}
-use lib.Dec.{eqb}
-use lib.ListN.{length, get_or, take, length-take}
-use lib.Seq.{take-take, take_at}
+use lib.Dec.{eqb, ltb}
+use lib.ListN.{length, get_or, take}
+use lib.Seq.{take_at}
 use Rattle.lists.specs.Bytes.{Bytes}
 use Rattle.lists.specs.Cases.{by_bool}
 use Rattle.lists.specs.Sorting.{Ascending}
@@ -17,7 +17,7 @@ use Rattle.ordering.specs.Order.{of_rank, ranked, Apart, Ordered}
 use Rattle.ordering.proofs.OrderLaws.{ranked-ascending}
 use Rattle.ordering.proofs.OrderLaws.{rank-rest}
 use Rattle.ordering.specs.Placed.{Settled}
-use Rattle.ordering.proofs.Placed.{index_ascends, level_low, settled_in, in_settled, ordered}
+use Rattle.ordering.proofs.Placed.{index_long, index_ascends, level_low, settled_in, in_settled, ordered}
 use Rattle.tables.specs.declared.BitRow.{BitRow}
 use Rattle.tables.specs.Filling.{everywhere, Filled}
 use Rattle.ancestry.specs.Ancestors.{AncestorRows}
@@ -28,6 +28,7 @@ use Rattle.authority.specs.Sound.{SoundTable}
 use Rattle.authority.specs.PlaceLaws.{Tables}
 use Rattle.authority.proofs.AuthorityLaws.{authority}
 use Rattle.verdicts.specs.Effects.{Within, ByRank, Graded, Effects}
+use Rattle.verdicts.specs.Numbers.{verdict_number}
 use Rattle.verdicts.specs.Verdicts.{rank_of, verdict_of, Judged}
 use Rattle.verdicts.proofs.RankLaws.{by_rank_lem}
 use Rattle.verdicts.proofs.EffectLaws.{on_line, listed_fit, graded, verdict-at}
@@ -49,7 +50,7 @@ module _ {store : Bytes} {n : ℕ} {P T order : List ℕ} (settled : Settled sto
   ascends : Ascending key order
   ascends =
       subst (Ascending key) (sym settled.in_order)
-      (ranked-ascending T (take n settled.index) (id_at settled.ids) (index_ascends settled.levelled.loaded) 256)
+      (ranked-ascending T settled.index (id_at settled.ids) (index_ascends settled.levelled.loaded) 256)
 
   pub places_apart : Apart order
   places_apart = record { low = behind_parents.low; once = distinct_finer key (λ k. k ∷ []) same order (ascending_distinct key order ascends) }
@@ -59,8 +60,8 @@ module _ {store : Bytes} {n : ℕ} {P T order : List ℕ} (settled : Settled sto
 
   pub few_places : length order ≤ 256
   few_places =
-      let parted = rank-rest T (take n settled.index) 256 (level_low settled.levelled) in
-      omega (arith, ap length settled.in_order, parted, length-take n settled.index, settled.levelled.loaded.at_most)
+      let parted = rank-rest T settled.index 256 (level_low settled.levelled) in
+      omega (arith, ap length settled.in_order, parted, index_long settled.levelled.loaded, settled.levelled.loaded.at_most)
 
   -- ── the tables that the steps make ──────────────────────────────────────────────────────────────────────────────────────
 
@@ -92,7 +93,9 @@ module _ {store : Bytes} {n : ℕ} {P T order : List ℕ} (settled : Settled sto
               by_bool (eqb k 0)
               (λ t. let e : get_or R k 0 ≡ 0 = ranks.entry k h ∙ rw t in omega arith)
               (λ f. by_bool (get_or S k false)
-              (λ t. let e : get_or R k 0 ≡ get_or T (get_or Q k 0) 0 = ranks.entry k h ∙ rw (f, t) in omega (arith, e, level_low settled.levelled (get_or Q k 0)))
+              (λ t. by_bool (ltb (get_or Q k 0) 256)
+              (λ u. let e : get_or R k 0 ≡ get_or T (get_or Q k 0) 0 = ranks.entry k h ∙ rw (f, t, u) in omega (arith, e, level_low settled.levelled (get_or Q k 0)))
+              (λ u. let e : get_or R k 0 ≡ 0 = ranks.entry k h ∙ rw (f, t, u) in omega arith))
               (λ g. let e : get_or R k 0 ≡ 0 = ranks.entry k h ∙ rw (f, g) in omega arith))
 
       below : Filled (rank_of T Q S) n R
@@ -100,14 +103,9 @@ module _ {store : Bytes} {n : ℕ} {P T order : List ℕ} (settled : Settled sto
 
       -- l are those with a rank, the first `count` of all by rank
       module _ (out l : List ℕ) (count : ℕ) (counted : count ≡ length (ranked R order 256))
-          (sorted : take (length order) out ≡ ranked R order 256 ++ of_rank R order 0) (front : l ≡ take count out) where
+          (sorted : out ≡ ranked R order 256 ++ of_rank R order 0) (front : l ≡ take count out) where
         with-rank : l ≡ ranked R order 256
-        with-rank =
-            let few : count ≤ length order = omega (arith, counted, rank-rest R order 256 rank_low) in
-            front
-            ∙ sym (take-take count (length order) out few)
-            ∙ ap (take count) sorted
-            ∙ take_at (ranked R order 256) (of_rank R order 0) count (sym counted)
+        with-rank = front ∙ ap (take count) sorted ∙ take_at (ranked R order 256) (of_rank R order 0) count (sym counted)
 
         -- they fit the tables
         pub fits : Within Q l
@@ -116,7 +114,7 @@ module _ {store : Bytes} {n : ℕ} {P T order : List ℕ} (settled : Settled sto
         -- from the effects to the verdicts
         pub judged : {E : List Bool} {Z : List ℕ}
             → ((on : ℕ → ℕ → Bool) (rank : ℕ → ℕ) → Graded on rank Q G l → ByRank rank l → Effects on G M l E)
-            → Filled (verdict_of T S E) 256 Z → Judged store n Z
+            → Filled (λ k. verdict_number (verdict_of T S E k)) 256 Z → Judged store n Z
         judged {E} {Z} effects verdicts =
             record {
               entry = verdict-at tables S auth R order below settled.in_order E law Z

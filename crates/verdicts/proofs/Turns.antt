@@ -37,9 +37,12 @@ nowhere k =
 
 -- ── turns ───────────────────────────────────────────────────────────────────────────────────────────────────────────────
 
--- the next place
-pub next_within : {Q l : List ℕ} (i : ℕ) → Within Q l → i < length l → (get_or l i 0 < 256) × (get_or Q (get_or l i 0) 0 < 256)
-next_within {l = l} i w h = w.each (get_or l i 0) (mem_get_d l i 0 h)
+-- the next place, and what it presents
+pub next_low : {Q l : List ℕ} (i : ℕ) → Within Q l → i < length l → get_or l i 0 < 256
+next_low {l = l} i w h = (w.each (get_or l i 0) (mem_get_d l i 0 h)).0
+
+pub presented_low : {Q l : List ℕ} (i : ℕ) → Within Q l → i < length l → get_or Q (get_or l i 0) 0 < 256
+presented_low {l = l} i w h = (w.each (get_or l i 0) (mem_get_d l i 0 h)).1
 
 module _ (on : ℕ → ℕ → Bool) (G : List ℕ) (M : List BitRow) (l : List ℕ) where
   -- after the places `done`, the row of place g holds what each effective revoke of g has as an ancestor, and where g is done

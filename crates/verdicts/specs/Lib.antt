@@ -1,2 +1,3 @@
 pub mod Effects
 pub mod Verdicts
+pub mod Numbers

@@ -5,5 +5,4 @@ use Rattle.sha256.proofs.round_and_word.Goals as goal
 pub returns : goal.returns
 unfolding K
 returns c x z grown before =
-    rolling_turn x z grown c.args.t c.args.i c.requires.0 c.requires.1 c.requires.2 c.args.w.now c.args.s before
-    _ c.schedule_sum.ensures _ c.round.ensures
+    rolling_turn x z grown c.args.t c.requires c.args.w.now c.args.s before _ c.schedule_sum.ensures _ c.round.ensures

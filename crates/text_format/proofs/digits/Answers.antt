@@ -1,10 +1,12 @@
-use Rattle.std.proofs.Common.{◌∙◌, arith, length-set}
-use Rattle.text_format.proofs.TextWritten.{digits_turn}
+use Rattle.std.proofs.Common.{rules}
+use native.Mathlib.Omega.{arith}
+use Rattle.std.proofs.lemmas.Fmt.{length-decimal-le}
+use Rattle.text_format.proofs.Numbers.{five_digits}
 use Rattle.text_format.proofs.digits.Goals as goal
 
-pub loop-i-preserved : goal.loop-i-preserved
-loop-i-preserved g c = let l = c.loop-i in
-    record {
-      size = length-set l.text _ _ ∙ l.invariant.size;
-      written = digits_turn l.i l.left c.digit.result l.text c.loop-i-test.true (omega arith) c.digit.ensures ∙ l.invariant.written;
-    }
+pub write_digits-start-requires : goal.write_digits-start-requires
+write_digits-start-requires c = search (rules, length-decimal-le 5)
+
+pub returns : goal.returns
+returns c = let w = c.write_digits-start in
+    let all = five_digits c.args.n w.result w.new.buf (omega arith) (cc) (cc) (cc) in record { five = all.0; number = all.1 }

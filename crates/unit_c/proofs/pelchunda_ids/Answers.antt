@@ -1,24 +1,10 @@
 use Prim.Native.Nat.{◌*◌, ◌/◌}
-use mathlib.Core.Path.{refl}
 use lib.Dec.{eqb, leb}
 use lib.ListN.{length}
-use borrow.Author.Tests.{leb-true, lt-leb}
+use borrow.Author.Tests.{leb-true}
 use Rattle.lists.specs.Cases.{and→}
-use Rattle.unit_c.specs.Numbers.{ids_of}
 use Rattle.unit_c.proofs.IdsWritten.{ids-written}
 use Rattle.unit_c.proofs.pelchunda_ids.Goals as goal
-
-pub returns-then-not-events-n : goal.returns-then-not-events-n
-unfolding ids_of
-returns-then-not-events-n c = let events = length c.args.events.now in
-    rw (c.if-not-events-n.true, c.from.ensures) refl
-
-pub returns-then-ids-n : goal.returns-then-ids-n
-unfolding ids_of
-returns-then-ids-n c = let a = c.args in
-    let events = length a.events.now in
-    let whole = c.if-not-events-n.false in
-    rw (whole, lt-leb (events / 192 * 32) (length a.ids.now) c.if-ids-n.true, c.from-then-ids-n.ensures) refl
 
 pub find_ids-requires : goal.find_ids-requires
 find_ids-requires c = let events = length c.args.events.now in

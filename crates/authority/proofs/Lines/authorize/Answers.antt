@@ -1,4 +1,5 @@
-use Rattle.authority.proofs.Listed.{listed_low, sound_none, sound_more}
+use Rattle.tables.specs.Filling.{listed_low}
+use Rattle.authority.proofs.Listed.{sound_none, sound_more}
 use Rattle.authority.proofs.Lines.authorize.Goals as goal
 
 pub loop-place-init : goal.loop-place-init

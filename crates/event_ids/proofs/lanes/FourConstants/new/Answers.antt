@@ -1,14 +1,11 @@
-use Rattle.std.proofs.Common.{◌<◌, ◌≢◌, length, arith, get_or-set_other, get_or-set_same, below_more}
-use Rattle.std.proofs.Math.ListN.{length-set}
+use Rattle.std.proofs.Common.{◌/◌, get_or, ap, ◌∙◌, rules}
+use Rattle.lists.proofs.FromFn.{filled_at}
 use Rattle.event_ids.proofs.lanes.FourConstants.new.Goals as goal
 
-pub loop-i-preserved : goal.loop-i-preserved
-loop-i-preserved c =
-    let made = c.loop-i.invariant.made in
+pub invariant_of-result : goal.invariant_of-result
+invariant_of-result c = let k = c.args.k.now in
     record {
-      long = simp length-set c.loop-i.invariant.long;
-      made =
-          below_more _ _
-          (λ k h. let ne : k ≢ c.loop-i.i = omega arith in rw get_or-set_other (made k h))
-          (let lt : c.loop-i.i < length c.loop-i.words = omega arith in rw get_or-set_same);
+      four_times = λ i h.
+          filled_at _ (λ j. get_or k (j / 4) 0) _ (λ j y q r. search rules) _ c.from_fn.ensures.items i h
+          ∙ ap (λ x. get_or x (i / 4) 0) c.requires;
     }

@@ -1,4 +1,0 @@
-use Rattle.authority.proofs.+on_line.Given as goal
-
-abbrev pub decreases-on_line : goal.decreases-on_line
-decreases-on_line l = l.left
