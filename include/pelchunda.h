@@ -90,7 +90,7 @@ extern "C" {
 #define PELCHUNDA_FORMAT_NUMBER 0
 
 /* The most bytes of stack that any call uses. */
-#define PELCHUNDA_STACK_BYTES 41832
+#define PELCHUNDA_STACK_BYTES 40632
 
 /* Sizes in bytes, and the number of places of a store. */
 #define PELCHUNDA_EVENT_BYTES 192
@@ -159,7 +159,7 @@ uint32_t pelchunda_version(void);
  * event    192 bytes
  * returns  0, 1, 12, 3 or 5; a refusal leaves the store as it was
  * empty    store or event: 1; table: 12, where 1 passes
- * stack    168 bytes
+ * stack    152 bytes
  */
 PELCHUNDA_MUST_USE PELCHUNDA_NONNULL(3)
 uint8_t pelchunda_start(uint8_t *store, size_t store_len, size_t *count,
@@ -177,7 +177,7 @@ uint8_t pelchunda_start(uint8_t *store, size_t store_len, size_t *count,
  * returns  0, 1, 12 or 2 to 7; a refusal leaves the store, the count and
  *          repeat as they were
  * empty    store or event: 1; table: 12, where 1 passes
- * stack    13,800 bytes
+ * stack    14,864 bytes
  */
 PELCHUNDA_MUST_USE PELCHUNDA_NONNULL(3, 8)
 uint8_t pelchunda_take(uint8_t *store, size_t store_len, size_t *count,
@@ -193,7 +193,7 @@ uint8_t pelchunda_take(uint8_t *store, size_t store_len, size_t *count,
  *          the other two
  * returns  as pelchunda_take
  * empty    as pelchunda_take; the tally's refused is raised
- * stack    13,832 bytes
+ * stack    14,880 bytes
  */
 PELCHUNDA_MUST_USE PELCHUNDA_NONNULL(3, 8, 9)
 uint8_t pelchunda_take_counted(uint8_t *store, size_t store_len, size_t *count,
@@ -214,7 +214,7 @@ uint8_t pelchunda_take_counted(uint8_t *store, size_t store_len, size_t *count,
  *          figures as they were
  * empty    store: 1; table: 12, where 1 passes; bundle: 8, where table and
  *          store are good
- * stack    22,040 bytes
+ * stack    23,056 bytes
  */
 PELCHUNDA_MUST_USE PELCHUNDA_NONNULL(3, 8)
 uint8_t pelchunda_take_bundle(uint8_t *store, size_t store_len, size_t *count,
@@ -229,7 +229,7 @@ uint8_t pelchunda_take_bundle(uint8_t *store, size_t store_len, size_t *count,
  *          4,294,967,295. A refused bundle leaves it as it was
  * returns  as pelchunda_take_bundle
  * empty    as pelchunda_take_bundle
- * stack    22,072 bytes
+ * stack    23,088 bytes
  */
 PELCHUNDA_MUST_USE PELCHUNDA_NONNULL(3, 8, 9)
 uint8_t pelchunda_take_bundle_counted(uint8_t *store, size_t store_len, size_t *count,
@@ -245,7 +245,7 @@ uint8_t pelchunda_take_bundle_counted(uint8_t *store, size_t store_len, size_t *
  * place    the event's place: its 192 bytes start at store + 192 * place
  * returns  0, 1, 12, 2 or 9; a refusal leaves place as it was
  * empty    store or id: 1; table: 12, where 1 passes
- * stack    13,672 bytes
+ * stack    14,736 bytes
  */
 PELCHUNDA_MUST_USE PELCHUNDA_NONNULL(8)
 uint8_t pelchunda_look_up(const uint8_t *store, size_t store_len, size_t count,
@@ -263,7 +263,7 @@ uint8_t pelchunda_look_up(const uint8_t *store, size_t store_len, size_t count,
  * returns  0, 1, 12, 2 or 10; a refusal leaves out and rows as they were
  * empty    store: 1; table: 12, where 1 passes; out: 10, where table and store
  *          are good
- * stack    37,416 bytes
+ * stack    36,200 bytes
  */
 PELCHUNDA_MUST_USE PELCHUNDA_NONNULL(8)
 uint8_t pelchunda_order(const uint8_t *store, size_t store_len, size_t count,
@@ -279,7 +279,7 @@ uint8_t pelchunda_order(const uint8_t *store, size_t store_len, size_t count,
  * verdict  0 waiting, 1 unsound, 2 void, 3 effective
  * returns  0, 1, 12, 2 or 9; a refusal leaves verdict as it was
  * empty    store or id: 1; table: 12, where 1 passes
- * stack    37,400 bytes
+ * stack    36,184 bytes
  */
 PELCHUNDA_MUST_USE PELCHUNDA_NONNULL(8)
 uint8_t pelchunda_verdict(const uint8_t *store, size_t store_len, size_t count,
@@ -301,7 +301,7 @@ uint8_t pelchunda_verdict(const uint8_t *store, size_t store_len, size_t count,
  *          they were
  * empty    store: 1; table: 12, where 1 passes; out, where table and store are
  *          good: 10, or 0 where no link stands
- * stack    39,704 bytes
+ * stack    38,536 bytes
  */
 PELCHUNDA_MUST_USE PELCHUNDA_NONNULL(8, 9, 10)
 uint8_t pelchunda_map(const uint8_t *store, size_t store_len, size_t count,
@@ -319,7 +319,7 @@ uint8_t pelchunda_map(const uint8_t *store, size_t store_len, size_t count,
  * returns  0, 1, 12, 2 or 10; a refusal leaves out and bytes as they were
  * empty    store: 1; table: 12, where 1 passes; out: 10, where table and store
  *          are good
- * stack    18,792 bytes
+ * stack    24,720 bytes
  */
 PELCHUNDA_MUST_USE PELCHUNDA_NONNULL(8)
 uint8_t pelchunda_write_out(const uint8_t *store, size_t store_len, size_t count,
@@ -338,7 +338,7 @@ uint8_t pelchunda_write_out(const uint8_t *store, size_t store_len, size_t count
  * returns  0, 1, 12, 2 or 10; a refusal leaves out and bytes as they were
  * empty    store: 1; table: 12, where 1 passes; out: 10, where table and store
  *          are good
- * stack    41,832 bytes
+ * stack    40,632 bytes
  */
 PELCHUNDA_MUST_USE PELCHUNDA_NONNULL(8)
 uint8_t pelchunda_text(const uint8_t *store, size_t store_len, size_t count,
@@ -352,7 +352,7 @@ uint8_t pelchunda_text(const uint8_t *store, size_t store_len, size_t count,
  * out      at least 512 bytes: the table; the bytes past it stay
  * returns  0; 10 where out is too short. A refusal leaves out as it was
  * empty    out: 10
- * stack    664 bytes
+ * stack    680 bytes
  */
 PELCHUNDA_MUST_USE
 uint8_t pelchunda_document_table(uint8_t *out, size_t out_len);
@@ -380,7 +380,7 @@ uint8_t pelchunda_first_event(const uint8_t *bundle, size_t bundle_len,
  * returns  0; 1 where the event has another length; 10 where id is too short.
  *          A refusal leaves id as it was
  * empty    event: 1; id: 10, where the event has its length
- * stack    1,048 bytes
+ * stack    1,104 bytes
  */
 PELCHUNDA_MUST_USE
 uint8_t pelchunda_id(const uint8_t *event, size_t event_len,
@@ -395,7 +395,7 @@ uint8_t pelchunda_id(const uint8_t *event, size_t event_len,
  * returns  0; 1 where events_len is no multiple of 192 or above 49,152; 10
  *          where ids is too short. A refusal leaves ids as it was
  * empty    events: 0, n is 0; ids: 10, where there is an event
- * stack    3,752 bytes
+ * stack    3,776 bytes
  */
 PELCHUNDA_MUST_USE
 uint8_t pelchunda_ids(const uint8_t *events, size_t events_len,
