@@ -90,7 +90,7 @@ extern "C" {
 #define PELCHUNDA_FORMAT_NUMBER 0
 
 /* The most bytes of stack that any call uses. */
-#define PELCHUNDA_STACK_BYTES 40632
+#define PELCHUNDA_STACK_BYTES 38584
 
 /* Sizes in bytes, and the number of places of a store. */
 #define PELCHUNDA_EVENT_BYTES 192
@@ -263,7 +263,7 @@ uint8_t pelchunda_look_up(const uint8_t *store, size_t store_len, size_t count,
  * returns  0, 1, 12, 2 or 10; a refusal leaves out and rows as they were
  * empty    store: 1; table: 12, where 1 passes; out: 10, where table and store
  *          are good
- * stack    36,200 bytes
+ * stack    34,408 bytes
  */
 PELCHUNDA_MUST_USE PELCHUNDA_NONNULL(8)
 uint8_t pelchunda_order(const uint8_t *store, size_t store_len, size_t count,
@@ -279,7 +279,7 @@ uint8_t pelchunda_order(const uint8_t *store, size_t store_len, size_t count,
  * verdict  0 waiting, 1 unsound, 2 void, 3 effective
  * returns  0, 1, 12, 2 or 9; a refusal leaves verdict as it was
  * empty    store or id: 1; table: 12, where 1 passes
- * stack    36,184 bytes
+ * stack    34,136 bytes
  */
 PELCHUNDA_MUST_USE PELCHUNDA_NONNULL(8)
 uint8_t pelchunda_verdict(const uint8_t *store, size_t store_len, size_t count,
@@ -301,7 +301,7 @@ uint8_t pelchunda_verdict(const uint8_t *store, size_t store_len, size_t count,
  *          they were
  * empty    store: 1; table: 12, where 1 passes; out, where table and store are
  *          good: 10, or 0 where no link stands
- * stack    38,536 bytes
+ * stack    36,488 bytes
  */
 PELCHUNDA_MUST_USE PELCHUNDA_NONNULL(8, 9, 10)
 uint8_t pelchunda_map(const uint8_t *store, size_t store_len, size_t count,
@@ -319,7 +319,7 @@ uint8_t pelchunda_map(const uint8_t *store, size_t store_len, size_t count,
  * returns  0, 1, 12, 2 or 10; a refusal leaves out and bytes as they were
  * empty    store: 1; table: 12, where 1 passes; out: 10, where table and store
  *          are good
- * stack    24,720 bytes
+ * stack    19,536 bytes
  */
 PELCHUNDA_MUST_USE PELCHUNDA_NONNULL(8)
 uint8_t pelchunda_write_out(const uint8_t *store, size_t store_len, size_t count,
@@ -338,7 +338,7 @@ uint8_t pelchunda_write_out(const uint8_t *store, size_t store_len, size_t count
  * returns  0, 1, 12, 2 or 10; a refusal leaves out and bytes as they were
  * empty    store: 1; table: 12, where 1 passes; out: 10, where table and store
  *          are good
- * stack    40,632 bytes
+ * stack    38,584 bytes
  */
 PELCHUNDA_MUST_USE PELCHUNDA_NONNULL(8)
 uint8_t pelchunda_text(const uint8_t *store, size_t store_len, size_t count,
@@ -352,7 +352,7 @@ uint8_t pelchunda_text(const uint8_t *store, size_t store_len, size_t count,
  * out      at least 512 bytes: the table; the bytes past it stay
  * returns  0; 10 where out is too short. A refusal leaves out as it was
  * empty    out: 10
- * stack    680 bytes
+ * stack    664 bytes
  */
 PELCHUNDA_MUST_USE
 uint8_t pelchunda_document_table(uint8_t *out, size_t out_len);
@@ -380,7 +380,7 @@ uint8_t pelchunda_first_event(const uint8_t *bundle, size_t bundle_len,
  * returns  0; 1 where the event has another length; 10 where id is too short.
  *          A refusal leaves id as it was
  * empty    event: 1; id: 10, where the event has its length
- * stack    1,104 bytes
+ * stack    1,072 bytes
  */
 PELCHUNDA_MUST_USE
 uint8_t pelchunda_id(const uint8_t *event, size_t event_len,

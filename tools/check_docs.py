@@ -10,7 +10,7 @@ from pathlib import Path
 ROOT = Path(__file__).resolve().parent.parent
 CRATES = ROOT / "crates"
 DOCS = [ROOT / "README.md"] + sorted((ROOT / "docs").glob("*.md"))
-PAST = {"PORT.md", "DESIGN-PASS.md"}  # tell of what was before: their names and counts are not looked for
+PAST = {"PORT.md", "DESIGN-PASS.md", "LOOK-BACK.md"}  # tell of what was before: their names and counts are not looked for
 SOURCES = {".rt", ".antt", ".h", ".c", ".rs", ".py", ".sh", ".toml", ".txt"}
 
 # Words in backquotes that stand in no source: the toolchain's and the C library's, what is built, stand-ins for a name.

@@ -74,7 +74,7 @@ fill() {
     cp "$clone/include/pelchunda.h" "$delivery/include/"
     write_pkg_config >"$delivery/lib/pkgconfig/pelchunda.pc"
     cp "$clone"/docs/*.md "$documents/"
-    rm "$documents/PORT.md" "$documents/DESIGN-PASS.md" # they tell those who change the program what it was before
+    rm "$documents/PORT.md" "$documents/DESIGN-PASS.md" "$documents/LOOK-BACK.md" # they tell those who change the program what it was before
     cp "$clone/crates/unit_c/src/lib.rt" "$documents/contracts/unit_c.rt"
     cp "$clone/samples/room.bun" "$clone/samples/room.txt" "$clone/examples/room.c" "$data/sample/"
     cp "$clone"/examples/acceptance*.[ch] "$data/acceptance/"

@@ -1,6 +1,6 @@
 -- Soundness by places. P is the table of named places, Q the presented places, G the targets, S the places found sound, l the
 -- settled places, each behind its parents.
-use Rattle.std.specs.Prelude.{ℕ, ◌+◌, ◌*◌, ◌≡◌, Bool, false, not, ◌&&◌, ◌||◌, eqb, ltb, get_or, Option, Some, None}
+use Rattle.std.specs.Prelude.{ℕ, ◌+◌, ◌*◌, ◌≡◌, refl, Bool, true, false, cond, not, ◌&&◌, ◌||◌, eqb, ltb, get_or, Option, Some, None}
 use mathlib.Core.List.{List, Memᴰ}
 use Rattle.lists.specs.Bytes.{Bytes}
 use Rattle.lists.specs.Cases.{maybe}
@@ -52,6 +52,14 @@ sound_at store P Q G S k =
     || (parents_sound P S k
     && maybe false (permits_by (author_of (event_at store k)) (body_of (event_at store k))) (grant_in (given_at store (get_or Q k 0)))
     && target_suits_at Q (body_of (event_at store k)) (get_or Q k 0) (get_or G k 0))
+
+-- 1 for true, 0 for false
+abbrev pub bit : Bool → ℕ
+bit b = cond b 1 0
+
+pub bit_test : (b : Bool) → eqb (bit b) 1 ≡ b
+bit_test true = refl
+bit_test false = refl
 
 -- the table says of each listed place whether it is sound, from what it says of the parents; another place is not
 pub record SoundTable (store : Bytes) (P Q G l : List ℕ) (S : List Bool) : Type 0 where

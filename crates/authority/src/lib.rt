@@ -48,10 +48,8 @@ fn find_ancestor(named: &Named, rows: &[BitRow; 256], k: u8, j: u8) -> Option<u8
     requires { j < 5 }
     ensures { result ≡ ancestor_by named.now rows.now k j }
 {
-    match named.at(k, j) {
-        Spot::At(p) => rows[usize::from(k)].has(u16::from(p)).then_some(p),
-        _ => None,
-    }
+    let p = named.at(k, j).place()?;
+    rows[usize::from(k)].has(u16::from(p)).then_some(p)
 }
 
 // What the ancestor at place p gives: the creator rights 7 to its author, a grant what it says.
@@ -139,7 +137,7 @@ fn parent_sound(sound: &[bool; 256], parent: Spot) -> bool
     match parent {
         Spot::Unnamed => true,
         Spot::Missing => false,
-        Spot::At(p) => sound[usize::from(p)],
+        Spot::At(p) => tables::entry(sound, p, false),
     }
 }
 

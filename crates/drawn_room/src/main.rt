@@ -15,7 +15,8 @@ fn main(rt: HostRuntime) -> io::Result<()> {
     let j = join(2, &b, &b);
     let r1 = revoke(1, &a, &b, &b);
     let r2 = revoke(0, &c, &a, &j);
-    let mut room = Room::started(&c);
+    let mut room = Room::new();
+    room.start(&c);
     room.take(&a);
     room.take(&b);
     room.take(&j);
@@ -40,15 +41,18 @@ struct Room {
 }
 
 impl Room {
-    fn started(creator: &[u8]) -> Room {
-        let table = unit::document_table();
-        let mut store = [0; 49152];
-        let count = unit::start(&mut store, &table, creator).count;
+    // One that has not started. All bytes are 0: so the compiler makes it at its place, and no other that it would copy.
+    fn new() -> Room {
         Room {
-            store,
-            count,
-            table,
+            store: [0; 49152],
+            count: 0,
+            table: [0; 512],
         }
+    }
+
+    fn start(&mut self, creator: &[u8]) {
+        self.table = unit::document_table();
+        self.count = unit::start(&mut self.store, &self.table, creator).count;
     }
 
     fn take(&mut self, e: &[u8; 192]) {
@@ -155,7 +159,9 @@ fn carry_over(rt: &impl Print, held: Held, e: &[u8; 192]) -> io::Result<()> {
     let mut out = [0u8; 57];
     let mut tally = Tally::default();
     println!(rt; "write-out {}", Shown(unit::write_out(held, &mut bundle)))?;
-    let mut fresh = Room::started(unit::first_event(&bundle).unwrap_or(&bundle[..0]));
+    let mut number = 255;
+    let mut fresh = Room::new();
+    fresh.start(unit::first_event_part(&bundle, &mut number));
     fresh.take_counted(e, &mut tally);
     let answer = fresh.take_bundle_counted(&bundle, &mut tally);
     println!(rt; "bundle {}", Shown(answer))?;

@@ -10,6 +10,7 @@ ghost use Rattle.event_ids.specs.Lanes.{event_at, block_of, padded_block, with_w
 ghost use Rattle.event_ids.specs.Lanes.{EachLane, OtherSchedules, OtherStates, Stepped};
 
 use sha256::State;
+use sha256::constants::ROUND_CONSTANTS;
 use std::array;
 
 // Four events, one behind another.
@@ -45,6 +46,13 @@ impl<'a> FourEvents<'a> {
     }
 }
 
+// 64 words, each four times.
+pub fn four_times(k: &[u32; 64]) -> [u32; 256]
+    ensures { FourTimes k.now result }
+{
+    array::from_fn(|i| k[i / 4])
+}
+
 // The round constants, each four times: so the constants of a round, one to a lane, are one vector.
 #[derive(Drop)]
 pub struct FourConstants {
@@ -53,12 +61,11 @@ pub struct FourConstants {
 }
 
 impl FourConstants {
-    pub fn new(k: &[u32; 64]) -> Self
-        requires { k.now ≡ K }
+    pub fn new() -> Self
         ensures { FourTimes K result.words }
     {
         FourConstants {
-            words: array::from_fn(|i| k[i / 4]),
+            words: four_times(&ROUND_CONSTANTS),
         }
     }
 

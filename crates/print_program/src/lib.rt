@@ -79,7 +79,9 @@ fn refuse(rt: &impl Print, refusal: Refusal) -> io::Result<()> {
     rt.write_all(octets::part(&line, 0, n))
 }
 
-// Writes the page of the file's bytes. The text of 256 events is never longer than the area.
+// Writes the page of the file's bytes. The text of 256 events is never longer than the area. Not inlined: where a file is refused, the stack
+// has no store.
+#[inline(never)]
 fn print_bytes(rt: &impl Print, file: &[u8]) -> io::Result<()> {
     let mut store = area::<49152>();
     let mut out = area::<8192>();

@@ -3,7 +3,7 @@
 
 #![tactic(auto)]
 
-pub use bundles::first_event;
+pub use bundles::{first_event, first_event_part};
 pub use cords::document_table;
 pub use event::Refusal;
 pub use reports::{MapFigures, map, order, verdict, write_out};

@@ -77,11 +77,14 @@ fn write(out: &mut [u8], bytes: &[u8]) -> Result<(), Refusal>
     Ok(())
 }
 
-// Writes document 01's cord table, 512 bytes, to the front of the output.
+// Writes document 01's cord table, 512 bytes, to the front of the output. The table is made where there is room for it.
 #[unsafe(no_mangle)]
 pub extern "C" fn pelchunda_document_table(out: &mut [u8]) -> u8
     ensures { show_output (document_of out.old) ≡ record { number = result; buffer = out.new; behind = [] } }
 {
+    if out.len() < cords::TABLE_BYTES {
+        return u8::from(Refusal::ShortOutput);
+    }
     number(write(out, &unit::document_table()))
 }
 
@@ -314,7 +317,7 @@ pub extern "C" fn pelchunda_first_event(bundle: &[u8], offset: &mut usize) -> u8
     show(bundles::find_first(bundle), offset)
 }
 
-// Writes the id of an event to the front of `id`: the SHA-256 of its 192 bytes.
+// Writes the id of an event to the front of `id`: the SHA-256 of its 192 bytes, which are hashed where there is room for it.
 #[tactic(auto, unfolding(crate::specs::Numbers::id_of))]
 #[unsafe(no_mangle)]
 pub extern "C" fn pelchunda_id(event: &[u8], id: &mut [u8]) -> u8
@@ -322,6 +325,9 @@ pub extern "C" fn pelchunda_id(event: &[u8], id: &mut [u8]) -> u8
 {
     if event.len() != EVENT_BYTES {
         return u8::from(Refusal::WrongLength);
+    }
+    if id.len() < ID_BYTES {
+        return u8::from(Refusal::ShortOutput);
     }
     number(write(id, &sha256::event_id(event)))
 }
