@@ -263,7 +263,7 @@ uint8_t pelchunda_look_up(const uint8_t *store, size_t store_len, size_t count,
  * returns  0, 1, 12, 2 or 10; a refusal leaves out and rows as they were
  * empty    store: 1; table: 12, where 1 passes; out: 10, where table and store
  *          are good
- * stack    34,408 bytes
+ * stack    34,936 bytes
  */
 PELCHUNDA_MUST_USE PELCHUNDA_NONNULL(8)
 uint8_t pelchunda_order(const uint8_t *store, size_t store_len, size_t count,

@@ -1,4 +1,5 @@
 pub mod Found
 pub mod Lines
 pub mod Sound
+pub mod Numbers
 pub mod PlaceLaws

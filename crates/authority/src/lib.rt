@@ -7,7 +7,7 @@ ghost use Rattle.std.specs.Prelude.{◌≡◌, ℕ, ◌<◌, map, eqb, get_or};
 ghost use mathlib.Core.List.{Memᴰ};
 ghost use Rattle.lists.specs.Tests.{any_of};
 ghost use Rattle.model.specs.Verdicts.{given_by, has, within, right_for, covers_body};
-ghost use Rattle.ordering.specs.Named.{number_of_spot};
+ghost use Rattle.ordering.specs.Named.{number_of_spot, held_place};
 ghost use Rattle.ordering.specs.Order.{Ordered};
 ghost use Rattle.authority.specs.Found.{place_number, ancestor_by, given_from, given_at, target_by, NamedAncestors};
 ghost use Rattle.authority.specs.Lines.{line_from};
@@ -40,6 +40,13 @@ pub struct Lines<'a> {
     pub named: &'a Named,
     pub presented: [Option<u8>; 256],
     pub targets: [Option<u8>; 256],
+}
+
+// A number as a place, where it is one.
+fn held_place(p: u16) -> Option<u8>
+    ensures { result ≡ held_place p }
+{
+    u8::try_from(p).ok()
 }
 
 // Finds the id j that the event at place k names among its ancestors. A row has no bit for what is no place.
@@ -152,6 +159,25 @@ fn parents_sound(named: &Named, sound: &[bool; 256], k: u8) -> bool
 }
 
 impl<'a> Lines<'a> {
+    // Lines by tables of any numbers; one past 255 is no place. What `authorize` finds by these lines is what the tables themselves say, by
+    // `sound_of_numbers` (specs/Numbers).
+    pub fn of(
+        store: &'a [u8],
+        named: &'a Named,
+        presented: &[u16; 256],
+        targets: &[u16; 256],
+    ) -> Lines<'a>
+        ensures lent { (result.store.now ≡ store.now) × (result.named.now ≡ named.now) }
+        ensures read { (result.presented ≡ map held_place presented.now) × (result.targets ≡ map held_place targets.now) }
+    {
+        Lines {
+            store,
+            named,
+            presented: presented.map(held_place),
+            targets: targets.map(held_place),
+        }
+    }
+
     // For each listed place, where the ancestor stands that it presents, and the grant among its ancestors that a revoke names.
     // Kept, no plainer: casts of places to u8, here and in `authorize`. They are proved to fit, and try_from would have an error that never comes.
     #[tactic(auto, using(tables::specs::Filling::listed_low, crate::proofs::Listed::named_none))]

@@ -23,7 +23,8 @@ pub fn area<const N: usize>() -> [u8; N]
 }
 
 // Takes the whole file into a started unit, and writes the text of the events held. The take is not refused: a file with a first event
-// passes check 8, and a start leaves a store that passes check 2.
+// passes check 8, and a start leaves a store that passes check 2. Not inlined: where a file is refused, the stack has no tables of these calls.
+#[inline(never)]
 #[tactic(auto, unfolding(crate::specs::Page::taken_text))]
 fn write_taken(
     file: &[u8],
