@@ -177,7 +177,7 @@ uint8_t pelchunda_start(uint8_t *store, size_t store_len, size_t *count,
  * returns  0, 1, 12 or 2 to 7; a refusal leaves the store, the count and
  *          repeat as they were
  * empty    store or event: 1; table: 12, where 1 passes
- * stack    14,864 bytes
+ * stack    14,848 bytes
  */
 PELCHUNDA_MUST_USE PELCHUNDA_NONNULL(3, 8)
 uint8_t pelchunda_take(uint8_t *store, size_t store_len, size_t *count,
@@ -193,7 +193,7 @@ uint8_t pelchunda_take(uint8_t *store, size_t store_len, size_t *count,
  *          the other two
  * returns  as pelchunda_take
  * empty    as pelchunda_take; the tally's refused is raised
- * stack    14,880 bytes
+ * stack    14,864 bytes
  */
 PELCHUNDA_MUST_USE PELCHUNDA_NONNULL(3, 8, 9)
 uint8_t pelchunda_take_counted(uint8_t *store, size_t store_len, size_t *count,
@@ -214,7 +214,7 @@ uint8_t pelchunda_take_counted(uint8_t *store, size_t store_len, size_t *count,
  *          figures as they were
  * empty    store: 1; table: 12, where 1 passes; bundle: 8, where table and
  *          store are good
- * stack    23,056 bytes
+ * stack    23,040 bytes
  */
 PELCHUNDA_MUST_USE PELCHUNDA_NONNULL(3, 8)
 uint8_t pelchunda_take_bundle(uint8_t *store, size_t store_len, size_t *count,
@@ -229,7 +229,7 @@ uint8_t pelchunda_take_bundle(uint8_t *store, size_t store_len, size_t *count,
  *          4,294,967,295. A refused bundle leaves it as it was
  * returns  as pelchunda_take_bundle
  * empty    as pelchunda_take_bundle
- * stack    23,088 bytes
+ * stack    23,072 bytes
  */
 PELCHUNDA_MUST_USE PELCHUNDA_NONNULL(3, 8, 9)
 uint8_t pelchunda_take_bundle_counted(uint8_t *store, size_t store_len, size_t *count,
@@ -245,7 +245,7 @@ uint8_t pelchunda_take_bundle_counted(uint8_t *store, size_t store_len, size_t *
  * place    the event's place: its 192 bytes start at store + 192 * place
  * returns  0, 1, 12, 2 or 9; a refusal leaves place as it was
  * empty    store or id: 1; table: 12, where 1 passes
- * stack    14,736 bytes
+ * stack    14,720 bytes
  */
 PELCHUNDA_MUST_USE PELCHUNDA_NONNULL(8)
 uint8_t pelchunda_look_up(const uint8_t *store, size_t store_len, size_t count,
@@ -319,7 +319,7 @@ uint8_t pelchunda_map(const uint8_t *store, size_t store_len, size_t count,
  * returns  0, 1, 12, 2 or 10; a refusal leaves out and bytes as they were
  * empty    store: 1; table: 12, where 1 passes; out: 10, where table and store
  *          are good
- * stack    19,536 bytes
+ * stack    19,520 bytes
  */
 PELCHUNDA_MUST_USE PELCHUNDA_NONNULL(8)
 uint8_t pelchunda_write_out(const uint8_t *store, size_t store_len, size_t count,
@@ -380,7 +380,7 @@ uint8_t pelchunda_first_event(const uint8_t *bundle, size_t bundle_len,
  * returns  0; 1 where the event has another length; 10 where id is too short.
  *          A refusal leaves id as it was
  * empty    event: 1; id: 10, where the event has its length
- * stack    1,072 bytes
+ * stack    1,056 bytes
  */
 PELCHUNDA_MUST_USE
 uint8_t pelchunda_id(const uint8_t *event, size_t event_len,
@@ -395,7 +395,7 @@ uint8_t pelchunda_id(const uint8_t *event, size_t event_len,
  * returns  0; 1 where events_len is no multiple of 192 or above 49,152; 10
  *          where ids is too short. A refusal leaves ids as it was
  * empty    events: 0, n is 0; ids: 10, where there is an event
- * stack    3,776 bytes
+ * stack    3,760 bytes
  */
 PELCHUNDA_MUST_USE
 uint8_t pelchunda_ids(const uint8_t *events, size_t events_len,

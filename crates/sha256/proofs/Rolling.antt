@@ -79,3 +79,16 @@ module _ (x : List ℕ) (z : State) (grown : Grown x) (t : ℕ) (few : t < 48) (
           have = have_more;
           done = round_turn x z t (t + 1) refl before.done (rw first at e);
         }
+
+-- the same at the round t + i, for a t that 16 divides: the places are those of i
+pub rolling_at : (x : List ℕ) (z : State) → Grown x → (t i : ℕ) → t + 16 ≤ 48 → t % 16 ≡ 0 → i < 16 → (w : List ℕ) (s : State)
+    → Rolling x z (t + i) w s → (v : ℕ)
+    → v ≡ σ1 (get_or w ((i + 14) % 16) 0) ⊞ get_or w ((i + 9) % 16) 0 ⊞ σ0 (get_or w ((i + 1) % 16) 0) ⊞ get_or w i 0
+    → (r : State) → r ≡ one_round (get_or K (t + i) 0) (get_or w i 0) s → Rolling x z (t + (i + 1)) (set w i v) r
+rolling_at x z grown t i few divides low w s before v word r e =
+    let here : (t + i) % 16 ≡ i = omega arith in
+    let one : (t + i + 1) % 16 ≡ (i + 1) % 16 = omega arith in
+    let nine : (t + i + 9) % 16 ≡ (i + 9) % 16 = omega arith in
+    let fourteen : (t + i + 14) % 16 ≡ (i + 14) % 16 = omega arith in
+    let next : t + i + 1 ≡ t + (i + 1) = omega arith in
+    rw (here, next) at (rolling_turn x z grown (t + i) (omega arith) w s before v (rw (fourteen, nine, one, here) word) r (rw here e))

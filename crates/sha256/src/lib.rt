@@ -135,45 +135,51 @@ fn first_rounds(s0: State, w: &mut [u32; 16]) -> State
     ensures { Rolling (extended 48 w.old) s0 48 w.new result }
 {
     let mut s = s0;
-    for t in (0..48).step_by(4) {
-        s = four_rounds_and_words(s, w, t);
+    for t in (0..48).step_by(16) {
+        s = four_rounds_and_words(s, w, t, 0);
+        s = four_rounds_and_words(s, w, t, 4);
+        s = four_rounds_and_words(s, w, t, 8);
+        s = four_rounds_and_words(s, w, t, 12);
     }
     s
 }
 
-// The rounds t to t + 3, each with the word 16 places on. To make the words beside the rounds is faster than before them.
-// Kept, speed: four rounds a turn, here and in `rounds_on`. With one a turn one id took 1.17 of the reference's time; its bar is 1.05.
+// The rounds t + i to t + i + 3 for a t that 16 divides, each with the word 16 places on. To make the words beside the rounds is faster
+// than before them.
+// Kept, speed: sixteen rounds a turn, by fours. With one or four a turn the places of the words are not fixed, and one id took up to 1.17 of
+// the reference's time; its bar is 1.05.
 #[inline(always)]
-fn four_rounds_and_words(s0: State, w: &mut [u32; 16], t: usize) -> State
-    requires { t + 4 ≤ 48 }
-    ensures { (x : List ℕ) (z : State) → Grown x → Rolling x z t w.old s0 → Rolling x z (t + 4) w.new result }
+fn four_rounds_and_words(s0: State, w: &mut [u32; 16], t: usize, i: usize) -> State
+    requires { (t + 16 ≤ 48) × (t % 16 ≡ 0) × (i + 4 ≤ 16) }
+    ensures { (x : List ℕ) (z : State) → Grown x → Rolling x z (t + i) w.old s0 → Rolling x z (t + (i + 4)) w.new result }
 {
     let mut s = s0;
-    for j in 0..4 {
-        s = round_and_word(s, w, t + j);
+    for j in i..i + 4 {
+        s = round_and_word(s, w, t, j);
     }
     s
 }
 
-// The round t, and the word t + 16 of the schedule.
+// The round t + i, and the word t + i + 16 of the schedule, for a t that 16 divides.
 #[inline(always)]
-fn round_and_word(s: State, w: &mut [u32; 16], t: usize) -> State
-    requires { t < 48 }
-    ensures { (x : List ℕ) (z : State) → Grown x → Rolling x z t w.old s → Rolling x z (t + 1) w.new result }
+fn round_and_word(s: State, w: &mut [u32; 16], t: usize, i: usize) -> State
+    requires { (t + 16 ≤ 48) × (t % 16 ≡ 0) × (i < 16) }
+    ensures { (x : List ℕ) (z : State) → Grown x → Rolling x z (t + i) w.old s → Rolling x z (t + (i + 1)) w.new result }
 {
-    let x = w[t % 16];
-    w[t % 16] = schedule_sum(x, w[(t + 1) % 16], w[(t + 9) % 16], w[(t + 14) % 16]);
-    round(s, ROUND_CONSTANTS[t], x)
+    let x = w[i];
+    w[i] = schedule_sum(x, w[(i + 1) % 16], w[(i + 9) % 16], w[(i + 14) % 16]);
+    round(s, ROUND_CONSTANTS[t + i], x)
 }
 
 // The rounds from the round `from` on, with N words at hand: the last 16 of a rolling schedule, or a whole one.
 fn rounds_on<const N: usize>(s0: State, w: &[u32; N], from: usize) -> State
-    requires { (from ≤ 64) × (from % 4 ≡ 0) × (0 < N) }
+    requires { (from ≤ 64) × (from % 8 ≡ 0) × (0 < N) }
     ensures { (x : List ℕ) (z : State) → AtHand N x from (64 - from) w.now → s0 ≡ rounds from x z → result ≡ rounds 64 x z }
 {
     let mut s = s0;
-    for t in (from..64).step_by(4) {
+    for t in (from..64).step_by(8) {
         s = four_rounds(s, w, t);
+        s = four_rounds(s, w, t + 4);
     }
     s
 }
